@@ -1,0 +1,6 @@
+pub mod Meanings
+pub mod Sizes
+pub mod Reading
+pub mod Characters
+pub mod Pads
+pub mod Best

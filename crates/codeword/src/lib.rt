@@ -1,0 +1,186 @@
+// The data codewords of a symbol: what each means in its mode, and the sizes that a symbol has.
+ghost use mathlib.Core.Path.{_≡_};
+ghost use Rattle.codeword.specs.Meanings.{ascii, lone, pair, value, unfinished};
+ghost use Rattle.codeword.specs.Sizes.{isCapacity};
+
+// The four sets of C40. Sets 1, 2 and 3 are also the shifts that wait for their value.
+pub enum Set {
+    Basic,
+    Set1,
+    Set2,
+    Set3,
+}
+
+// What a value of C40 means in its set.
+pub enum Value {
+    Char(u8),
+    Shift(Set),
+    Unused,
+}
+
+// What a codeword means in ASCII mode.
+pub enum Ascii {
+    One(u8),
+    Two(u8, u8),
+    Latch,
+    Pad,
+    Wrong,
+}
+
+// What a lone last codeword means in C40 mode.
+pub enum Lone {
+    Ends,
+    Last(u8),
+    Bad,
+}
+
+// A pair of codewords in C40 mode yields three values or a refusal.
+pub enum Pair {
+    Three(u8, u8, u8),
+    Outside,
+}
+
+pub fn ascii_of(w: u8) -> Ascii
+    ensures { λ r. ⌜ r ≡ ascii w ⌝ }
+{
+    match w {
+        0 => Ascii::Wrong,
+        1..=128 => Ascii::One(w - 1),
+        129 => Ascii::Pad,
+        130..=229 => Ascii::Two(48 + (w - 130) / 10, 48 + (w - 130) % 10),
+        230 => Ascii::Latch,
+        _ => Ascii::Wrong,
+    }
+}
+
+pub fn lone_of(w: u8) -> Lone
+    ensures { λ r. ⌜ r ≡ lone w ⌝ }
+{
+    match w {
+        254 => Lone::Ends,
+        1..=128 => Lone::Last(w - 1),
+        _ => Lone::Bad,
+    }
+}
+
+pub fn pair_of(a: u8, b: u8) -> Pair
+    ensures { λ r. ⌜ r ≡ pair a b ⌝ }
+{
+    let w = 256 * (a as u32) + (b as u32);
+    if w == 0 {
+        return Pair::Outside;
+    }
+    if 64000 < w {
+        return Pair::Outside;
+    }
+    let v = w - 1;
+    Pair::Three((v / 1600) as u8, (v / 40 % 40) as u8, (v % 40) as u8)
+}
+
+fn basic_value(v: u8) -> Value
+    ensures { λ r. ⌜ r ≡ value Set.Basic v ⌝ }
+{
+    match v {
+        0 => Value::Shift(Set::Set1),
+        1 => Value::Shift(Set::Set2),
+        2 => Value::Shift(Set::Set3),
+        3 => Value::Char(32),
+        4..=13 => Value::Char(v + 44),
+        14..=39 => Value::Char(v + 51),
+        _ => Value::Unused,
+    }
+}
+
+fn set1_value(v: u8) -> Value
+    ensures { λ r. ⌜ r ≡ value Set.Set1 v ⌝ }
+{
+    match v {
+        0..=31 => Value::Char(v),
+        _ => Value::Unused,
+    }
+}
+
+fn set2_value(v: u8) -> Value
+    ensures { λ r. ⌜ r ≡ value Set.Set2 v ⌝ }
+{
+    match v {
+        0..=14 => Value::Char(v + 33),
+        15..=21 => Value::Char(v + 43),
+        22..=26 => Value::Char(v + 69),
+        _ => Value::Unused,
+    }
+}
+
+fn set3_value(v: u8) -> Value
+    ensures { λ r. ⌜ r ≡ value Set.Set3 v ⌝ }
+{
+    match v {
+        0..=31 => Value::Char(v + 96),
+        _ => Value::Unused,
+    }
+}
+
+pub fn value_of(set: Set, v: u8) -> Value
+    ensures { λ r. ⌜ r ≡ value set v ⌝ }
+{
+    match set {
+        Set::Basic => basic_value(v),
+        Set::Set1 => set1_value(v),
+        Set::Set2 => set2_value(v),
+        Set::Set3 => set3_value(v),
+    }
+}
+
+// Whether a shift that has nothing after it is refused: a shift 1 is filler and vanishes.
+pub fn is_unfinished(set: Set) -> bool
+    ensures { λ r. ⌜ r ≡ unfinished set ⌝ }
+{
+    match set {
+        Set::Basic => false,
+        Set::Set1 => false,
+        Set::Set2 => true,
+        Set::Set3 => true,
+    }
+}
+
+// The 24 square sizes hold, in data codewords: 10x10 up to 144x144.
+const CAPACITIES: [usize; 24] = [
+    3,
+    5,
+    8,
+    12,
+    18,
+    22,
+    30,
+    36,
+    44,
+    62,
+    86,
+    114,
+    144,
+    174,
+    204,
+    280,
+    368,
+    456,
+    576,
+    696,
+    816,
+    1050,
+    1304,
+    1558,
+];
+
+pub fn is_capacity(n: usize) -> bool
+    ensures { λ r. ⌜ r ≡ isCapacity n ⌝ }
+{
+    let sizes = CAPACITIES;
+    let mut i = 0;
+    while i < 24 {
+        if sizes[i] == n {
+            return true;
+        }
+        i += 1;
+    }
+    false
+}
