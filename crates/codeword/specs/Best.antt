@@ -4,7 +4,7 @@ use mathlib.Core.Bool.{Bool, true, false}
 use mathlib.Core.List.{List, [], _∷_}
 use mathlib.Core.Path.{_≡_}
 use lib.ListN.{length, take, getD}
-use Rattle.codeword.specs.Sizes.{limit}
+use Rattle.refusal.specs.Limits.{limit}
 use Rattle.codeword.specs.Reading.{Reading, good, refused, readSymbol}
 use Rattle.codeword.specs.Pads.{padAt}
 

@@ -4,6 +4,7 @@ use mathlib.Core.Bool.{Bool, true, false}
 use mathlib.Core.List.{List, [], _∷_}
 use lib.Dec.{leb, eqb}
 use lib.ListN.{length}
+use Rattle.refusal.specs.Limits.{limit}
 use Rattle.refusal.specs.Pick.{pick}
 use Rattle.refusal.specs.Numbers.{no-capacity, forbidden-codeword, pair-outside, unused-value, text-too-long, lent-too-short}
 use Rattle.codeword.specs.declared.Set.{Set}
@@ -17,7 +18,7 @@ use Rattle.codeword.specs.declared.Lone.the-variants.{Ends, Last, Bad}
 use Rattle.codeword.specs.declared.Pair.{Pair}
 use Rattle.codeword.specs.declared.Pair.the-variants.{Three, Outside}
 use Rattle.codeword.specs.Meanings.{ascii, lone, pair, value, unfinished}
-use Rattle.codeword.specs.Sizes.{limit, isCapacity}
+use Rattle.codeword.specs.Sizes.{isCapacity}
 
 -- What reading gives from a codeword on: the text, how many codewords stand before the first pad, and whether there is a pad;
 -- or the number of a refusal, and how many codewords further on its place is.

@@ -5,10 +5,6 @@ use mathlib.Core.List.{List, [], _∷_}
 use lib.Dec.{eqb}
 use Rattle.refusal.specs.Pick.{pick}
 
--- A text has at most 1,000 characters.
-abbrev pub limit : ℕ
-limit = 1000
-
 -- The 24 square sizes hold, in data codewords (10x10 up to 144x144):
 unfoldable pub capacities : List ℕ
 capacities =

@@ -1,2 +1,4 @@
 pub mod Numbers
+pub mod Limits
 pub mod Pick
+pub mod Answers

@@ -1,4 +1,4 @@
-// What every layer refuses with: a number of document 01's table, by name, and a place in the input.
+// What every layer refuses with: a number of document 01's table, by name, and a place in the input. And the limits.
 pub struct Refusal {
     pub number: u8,
     pub place: usize,
@@ -15,3 +15,56 @@ pub const UNUSED_VALUE: u8 = 4;
 pub const TEXT_TOO_LONG: u8 = 5;
 
 pub const LENT_TOO_SHORT: u8 = 6;
+
+pub const CHARACTER_ABOVE_127: u8 = 7;
+
+pub const NOT_A_CAPACITY: u8 = 8;
+
+pub const NO_SIZE_FITS: u8 = 9;
+
+pub const HEADER_TOO_SHORT: u8 = 10;
+
+pub const NOT_DC: u8 = 11;
+
+pub const UNKNOWN_VERSION: u8 = 12;
+
+pub const WRONG_HEADER_CHARACTER: u8 = 13;
+
+pub const WRONG_PERIMETER: u8 = 14;
+
+pub const NO_MARK: u8 = 15;
+
+pub const UNKNOWN_IDENTIFIER: u8 = 16;
+
+pub const ZONE_ENDS_INSIDE: u8 = 17;
+
+pub const WRONG_CHARACTER: u8 = 18;
+
+pub const DATA_TOO_SHORT: u8 = 19;
+
+pub const IDENTIFIER_REPEATED: u8 = 20;
+
+pub const SIGNATURE_LENGTH: u8 = 21;
+
+pub const SIGNATURE_CHARACTER: u8 = 22;
+
+pub const SPARE_BITS: u8 = 23;
+
+pub const ANNEX: u8 = 24;
+
+pub const DATA_TOO_LONG: u8 = 25;
+
+pub const FIXED_CUT: u8 = 26;
+
+pub const TOO_MANY_FIELDS: u8 = 27;
+
+pub const TYPE_NOT_COVERED: u8 = 28;
+
+pub const IDENTIFIER_MISSING: u8 = 29;
+
+pub const IDENTIFIER_NOT_PERMITTED: u8 = 30;
+
+pub const NO_ROW: u8 = 31;
+
+// A text has at most 1,000 characters.
+pub const LIMIT: usize = 1000;

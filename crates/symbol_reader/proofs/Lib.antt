@@ -1,0 +1,5 @@
+-- What the proofs of several functions use.
+mod After
+mod Clauses
+mod Nexts
+pub mod Whole

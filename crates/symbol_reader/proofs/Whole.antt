@@ -1,0 +1,83 @@
+-- The whole reading: what `readSymbol` is at each of the tests before the first codeword, what the lent text then holds, and that the
+-- promise leaves one answer.
+-- Assumes nothing.
+use mathlib.Core.Path.{_≡_, refl, sym, ap, subst, _∙_}
+use mathlib.Core.Bool.{true, false}
+use mathlib.Core.List.{List, [], _++_}
+use Prim.Native.Nat.{ℕ, _+_, _≤_, _<_}
+use native.Mathlib.Omega.{arith}
+use lib.ListN.{length, take, drop}
+use lib.Seq.{length-take-le, take-all}
+use borrow.Author.Tests.{le-leb, lt-leb}
+use Rattle.refusal.specs.declared.Refusal.{Refusal}
+use Rattle.refusal.specs.Limits.{limit}
+use Rattle.refusal.specs.Numbers.{refusal, no-capacity, lent-too-short}
+use Rattle.codeword.specs.Sizes.{isCapacity}
+use Rattle.codeword.specs.Reading.{Reading, good, refused, inAscii, read, readSymbol}
+use Rattle.symbol_reader.specs.declared.SymbolRead.{SymbolRead}
+use Rattle.symbol_reader.specs.declared.SymbolRead.the-variants.{Text, Refused}
+use Rattle.symbol_reader.specs.Answers.{answered, lentAfter}
+use Rattle.symbol_reader.specs.Steps.{Whole, whole, refused-at, after, says, lengthOf}
+
+pub is-no-capacity : (l : List ℕ) (lent : ℕ) → isCapacity (length l) ≡ false → refused no-capacity 0 ≡ readSymbol l lent
+unfolding readSymbol
+is-no-capacity l lent e = simp e
+
+pub is-too-short : (l : List ℕ) (lent : ℕ) → isCapacity (length l) ≡ true → lent < limit → refused lent-too-short 0 ≡ readSymbol l lent
+unfolding readSymbol
+is-too-short l lent e h = simp (e, lt-leb limit lent h)
+
+pub is-read : (l : List ℕ) (lent : ℕ) → isCapacity (length l) ≡ true → limit ≤ lent → read l inAscii limit ≡ readSymbol l lent
+unfolding readSymbol
+is-read l lent e h = simp (e, le-leb limit lent h)
+
+-- WHAT `read_symbol` PROMISES, and that there is only one possible answer
+abbrev pub Promised : Reading → (old : List ℕ) → SymbolRead → (new : List ℕ) → Type 0
+Promised o old r new = (r ≡ answered o) × (new ≡ lentAfter o old)
+
+pub only-one : (o : Reading) (old : List ℕ) (r r′ : SymbolRead) (new new′ : List ℕ) → Promised o old r new → Promised o old r′ new′
+    → (r ≡ r′) × (new ≡ new′)
+only-one o old r r′ new new′ p q = (p .0 ∙ sym (q .0), p .1 ∙ sym (q .1))
+
+pub refused-first : {o : Reading} {k p : ℕ} (old : List ℕ) → refused k p ≡ o → Promised o old (Refused (refusal k p)) old
+refused-first old e = (ap answered e, ap (λ (x : Reading). lentAfter x old) e)
+
+-- what a reader's answer says, with nothing in front
+replied : Whole → SymbolRead
+replied (whole t u) = Text (length t) u
+replied (refused-at k p) = Refused (refusal k p)
+
+lentBy : Whole → List ℕ → List ℕ
+lentBy (whole t u) old = t ++ drop (length t) old
+lentBy (refused-at k p) old = old
+
+replied-is : (o : Reading) → replied (after [] 0 o) ≡ answered o
+unfolding replied
+replied-is (good t n b) = let e : 0 + n ≡ n = omega arith in rw e
+replied-is (refused k p) = let e : 0 + p ≡ p = omega arith in rw e
+
+lent-is : (o : Reading) (old : List ℕ) → lentBy (after [] 0 o) old ≡ lentAfter o old
+unfolding lentBy
+lent-is (good t n b) old = refl
+lent-is (refused k p) old = refl
+
+-- a refusal of the readers is handed on
+pub refused-inside : {r : SymbolRead} {x : Refusal} (o : Reading) (b old : List ℕ) → r ≡ Refused x → says r b ≡ after [] 0 o → Promised o old r old
+unfolding replied lentBy
+refused-inside o b old h e =
+    let i = ap (λ (y : SymbolRead). says y b) (sym h) ∙ e in
+    (h ∙ ap replied i ∙ replied-is o, ap (λ (y : Whole). lentBy y old) i ∙ lent-is o old)
+
+-- what was read, the first n bytes of the buffer, is copied to the front of the text
+pub copied : {r : SymbolRead} {n u : ℕ} (o : Reading) (b old new : List ℕ) → r ≡ Text n u → says r b ≡ after [] 0 o → n ≤ length b
+    → new ≡ take (length (take n b)) (take n b) ++ drop (length (take n b)) old → Promised o old (Text n u) new
+unfolding replied lentBy
+copied {n = n} {u = u} o b old new h e k c =
+    let i = ap (λ (y : SymbolRead). says y b) (sym h) ∙ e in (
+      ap (λ (m : ℕ). Text m u) (sym (length-take-le n b k)) ∙ ap replied i ∙ replied-is o,
+      c ∙ ap (λ (t : List ℕ). t ++ drop (length (take n b)) old) (take-all (length (take n b)) (take n b) (omega arith))
+          ∙ ap (λ (y : Whole). lentBy y old) i ∙ lent-is o old,
+    )
+
+pub text-size : {r : SymbolRead} {n u : ℕ} → r ≡ Text n u → lengthOf r ≤ limit → n ≤ limit
+text-size h e = subst (λ (y : SymbolRead). lengthOf y ≤ limit) h e
