@@ -1,0 +1,17 @@
+-- The answers of the layers below, turned into numbers, are what the definitions of this crate say.
+-- Assumes nothing.
+use mathlib.Core.Path.{_≡_, refl}
+use Rattle.codeword.specs.Reading.{Reading, good, refused}
+use Rattle.symbol_reader.specs.declared.SymbolRead.{SymbolRead}
+use Rattle.symbol_reader.specs.declared.SymbolRead.the-variants.{Text, Refused}
+use Rattle.symbol_reader.specs.Answers.{answered}
+use Rattle.ddoc.specs.declared.Answer.{Answer}
+use Rattle.ddoc.specs.Answers.{readingAnswer}
+
+abbrev pub numbers : SymbolRead → Answer
+numbers (Text n used) = record { number = 0; place = 0; length = n; used = used }
+numbers (Refused r) = record { number = r .number; place = r .place; length = 0; used = 0 }
+
+pub numbers-are : (o : Reading) → numbers (answered o) ≡ readingAnswer o
+numbers-are (good t n b) = refl
+numbers-are (refused k p) = refl
