@@ -4,3 +4,5 @@ pub mod Reading
 pub mod Characters
 pub mod Pads
 pub mod Best
+pub mod Samples
+pub mod Corners

@@ -1,0 +1,306 @@
+//! Holds the library's reading of symbols against paper.rs, list by list: number, place, length, used and every byte
+//! of the lent text and of the guards around it. `reading [SEED]`; each group of lists is one test.
+
+mod ddoc;
+mod lists;
+mod paper;
+
+use lists::Dice;
+
+const USUAL_SEED: u64 = 20_240_816;
+/// Bytes before and behind the lent text that nobody may touch.
+const GUARD: usize = 64;
+/// Differences printed for a group; the others are only counted.
+const SHOWN: usize = 3;
+/// Each refusal has to be met this often, and accepted lists have to be this part of all.
+const LEAST_REFUSED: usize = 1000;
+const LEAST_ACCEPTED_PERCENT: usize = 10;
+
+/// Lists compared: how many were answered with each number (0: accepted), and how many differed.
+#[derive(Clone, Default)]
+struct Tally {
+    answers: [usize; 7],
+    differences: usize,
+}
+
+impl Tally {
+    fn lists(&self) -> usize {
+        self.answers.iter().sum()
+    }
+
+    fn add(&mut self, other: &Tally) {
+        for (mine, theirs) in self.answers.iter_mut().zip(other.answers) {
+            *mine += theirs;
+        }
+        self.differences += other.differences;
+    }
+}
+
+/// Lends the text and looks at what comes back.
+struct Bench {
+    /// Random bytes, from which lent texts and what stands behind the codewords are filled.
+    pool: Vec<u8>,
+    lent: Vec<u8>,
+    expected: Vec<u8>,
+    input: Vec<u8>,
+    tally: Tally,
+}
+
+impl Bench {
+    fn new(dice: &mut Dice) -> Bench {
+        let pool = lists::noise(dice, 65_536);
+        Bench { pool, lent: Vec::new(), expected: Vec::new(), input: Vec::new(), tally: Tally::default() }
+    }
+
+    fn compare(&mut self, dice: &mut Dice, codewords: &[u8], room: usize) {
+        // Random bytes behind the list: reading past its end would not go unseen.
+        self.input.clear();
+        self.input.extend_from_slice(codewords);
+        let start = dice.below(self.pool.len() - GUARD);
+        self.input.extend_from_slice(&self.pool[start..start + GUARD]);
+
+        let all = GUARD + room + GUARD;
+        let start = dice.below(self.pool.len() - all);
+        self.lent.clear();
+        self.lent.extend_from_slice(&self.pool[start..start + all]);
+        self.expected.clone_from(&self.lent);
+
+        let answer = ddoc::read_symbol(&self.input[..codewords.len()], &mut self.lent[GUARD..GUARD + room]);
+        let reading = paper::read_symbol(codewords, room);
+        let right = match &reading {
+            Ok(reading) => {
+                let length = reading.text.len();
+                self.expected[GUARD..GUARD + length].copy_from_slice(&reading.text);
+                ddoc::Answer { number: 0, place: 0, length, used: reading.used }
+            }
+            Err(refusal) => ddoc::Answer { number: refusal.number, place: refusal.place, length: 0, used: 0 },
+        };
+        self.tally.answers[right.number] += 1;
+        if answer != right || self.lent != self.expected {
+            self.tally.differences += 1;
+            if self.tally.differences <= SHOWN {
+                self.show(codewords, room, answer, right);
+            }
+        }
+    }
+
+    fn show(&self, codewords: &[u8], room: usize, answer: ddoc::Answer, right: ddoc::Answer) {
+        println!("difference: {} codewords, room {}: {:?}", codewords.len(), room, codewords);
+        println!("  library: {:?}", answer);
+        println!("  paper:   {:?}", right);
+        let unlike = self.lent.iter().zip(&self.expected).position(|(is, should)| is != should);
+        match unlike {
+            Some(at) => println!(
+                "  lent text: byte {} is {}, should be {}",
+                at as isize - GUARD as isize,
+                self.lent[at],
+                self.expected[at]
+            ),
+            None => println!("  lent text: as it should be"),
+        }
+    }
+}
+
+struct Run {
+    dice: Dice,
+    bench: Bench,
+    all: Tally,
+    passed: usize,
+    failed: usize,
+}
+
+impl Run {
+    /// One group of lists, one test.
+    fn group(&mut self, name: &str, lists: impl FnOnce(&mut Dice, &mut Bench)) {
+        self.bench.tally = Tally::default();
+        lists(&mut self.dice, &mut self.bench);
+        let tally = self.bench.tally.clone();
+        let good = tally.differences == 0 && tally.lists() > 0;
+        self.report(good, name, &tally);
+        self.all.add(&tally);
+    }
+
+    fn report(&mut self, good: bool, name: &str, tally: &Tally) {
+        let refused: Vec<String> = (1..7).map(|number| format!("{}: {}", number, tally.answers[number])).collect();
+        println!(
+            "{} {}: {} lists, {} accepted, refused {}; {} differ",
+            if good { "ok" } else { "FAILED" },
+            name,
+            tally.lists(),
+            tally.answers[0],
+            refused.join(", "),
+            tally.differences
+        );
+        if good {
+            self.passed += 1;
+        } else {
+            self.failed += 1;
+        }
+    }
+
+    /// The lists must have reached every answer, or the comparison says little.
+    fn coverage(&mut self) {
+        let all = self.all.clone();
+        let often = all.answers[1..].iter().all(|&count| count >= LEAST_REFUSED);
+        let accepted = 100 * all.answers[0] >= LEAST_ACCEPTED_PERCENT * all.lists();
+        self.report(often && accepted, "every answer occurs often", &all);
+    }
+}
+
+fn some_room(dice: &mut Dice) -> usize {
+    dice.one_of(&[1000, 1000, 1001, 1558])
+}
+
+fn random_lists(run: &mut Run) {
+    run.group("noise of every capacity", |dice, bench| {
+        for capacity in paper::CAPACITIES {
+            for _ in 0..2_000 {
+                let list = lists::noise(dice, capacity);
+                let room = some_room(dice);
+                bench.compare(dice, &list, room);
+            }
+        }
+    });
+    run.group("counts that are no capacity", |dice, bench| {
+        for count in (0..1_700).chain([5_000]) {
+            if paper::CAPACITIES.contains(&count) {
+                continue;
+            }
+            for _ in 0..5 {
+                let list = lists::noise(dice, count);
+                let room = dice.one_of(&[0, 999, 1000, 1558]);
+                bench.compare(dice, &list, room);
+            }
+        }
+    });
+}
+
+fn walks(run: &mut Run) {
+    run.group("walks", |dice, bench| {
+        for _ in 0..200_000 {
+            let capacity = dice.capacity();
+            let list = lists::walk(dice, capacity);
+            let room = some_room(dice);
+            bench.compare(dice, &list, room);
+        }
+    });
+    run.group("walks with codewords changed", |dice, bench| {
+        for _ in 0..80_000 {
+            let capacity = dice.capacity();
+            let mut list = lists::walk(dice, capacity);
+            lists::change(dice, &mut list);
+            bench.compare(dice, &list, 1000);
+        }
+    });
+    run.group("walks with codewords lost", |dice, bench| {
+        for _ in 0..80_000 {
+            let capacity = dice.capacity();
+            let mut list = lists::walk(dice, capacity);
+            let count = dice.between(1, 3);
+            lists::lose(dice, &mut list, count);
+            bench.compare(dice, &list, 1000);
+        }
+    });
+    run.group("walks with a packet of 64 lost", |dice, bench| {
+        for _ in 0..40_000 {
+            // Document 01: "Taking 86 codewords with one lost packet of 64 for a good 22"
+            let capacity = if dice.one_in(4) { 86 } else { dice.one_of(&paper::CAPACITIES[10..]) };
+            let mut list = lists::walk(dice, capacity);
+            lists::lose(dice, &mut list, 64);
+            bench.compare(dice, &list, 1000);
+        }
+    });
+}
+
+fn limits(run: &mut Run) {
+    run.group("texts of 998 to 1,002 characters", |dice, bench| {
+        for characters in 998..=1002 {
+            for kind in 0..lists::ENDINGS {
+                for _ in 0..500 {
+                    let list = lists::near_limit(dice, characters, kind);
+                    let room = some_room(dice);
+                    bench.compare(dice, &list, room);
+                }
+            }
+        }
+    });
+}
+
+fn corners(run: &mut Run) {
+    run.group("all lists of 3 corner codewords", |dice, bench| {
+        for a in lists::CORNERS {
+            for b in lists::CORNERS {
+                for c in lists::CORNERS {
+                    bench.compare(dice, &[a, b, c], 1000);
+                }
+            }
+        }
+    });
+    for count in [5, 8] {
+        run.group(&format!("lists of {} corner codewords", count), |dice, bench| {
+            for _ in 0..100_000 {
+                let list = lists::corners(dice, count);
+                bench.compare(dice, &list, 1000);
+            }
+        });
+    }
+}
+
+fn rooms(run: &mut Run) {
+    for room in [0, 1, 999, 1000, 1001, 1558] {
+        run.group(&format!("room {}", room), |dice, bench| {
+            for turn in 0..10_000 {
+                let capacity = dice.capacity();
+                let list = match turn % 4 {
+                    0 => lists::noise(dice, capacity),
+                    1 => lists::noise(dice, capacity + 1),
+                    2 => lists::corners(dice, capacity),
+                    _ => lists::walk(dice, capacity),
+                };
+                bench.compare(dice, &list, room);
+            }
+        });
+    }
+}
+
+fn long_runs(run: &mut Run) {
+    run.group("1,558 codewords 230 254 in turn", |dice, bench| {
+        let list: Vec<u8> = (0..1558).map(|place| if place % 2 == 0 { 230 } else { 254 }).collect();
+        bench.compare(dice, &list, 1000);
+    });
+    run.group("100,000,000 codewords of noise", |dice, bench| {
+        let mut left = 100_000_000;
+        while left >= 3 {
+            let capacity = dice.capacity();
+            if capacity <= left {
+                let list = lists::noise(dice, capacity);
+                bench.compare(dice, &list, 1000);
+                left -= capacity;
+            }
+        }
+    });
+}
+
+fn main() {
+    let seed = match std::env::args().nth(1).map(|word| word.parse()) {
+        None => USUAL_SEED,
+        Some(Ok(seed)) => seed,
+        Some(Err(_)) => {
+            eprintln!("reading: the seed has to be a number from 0 to {}", u64::MAX);
+            std::process::exit(2);
+        }
+    };
+    println!("seed {}", seed);
+    let mut dice = Dice(seed);
+    let bench = Bench::new(&mut dice);
+    let mut run = Run { dice, bench, all: Tally::default(), passed: 0, failed: 0 };
+    random_lists(&mut run);
+    walks(&mut run);
+    limits(&mut run);
+    corners(&mut run);
+    rooms(&mut run);
+    long_runs(&mut run);
+    run.coverage();
+    println!("{} passed, {} failed", run.passed, run.failed);
+    std::process::exit(if run.failed == 0 { 0 } else { 1 });
+}
