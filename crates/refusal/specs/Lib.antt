@@ -2,3 +2,4 @@ pub mod Numbers
 pub mod Limits
 pub mod Pick
 pub mod Answers
+pub mod Over

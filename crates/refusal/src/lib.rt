@@ -1,4 +1,9 @@
 // What every layer refuses with: a number of document 01's table, by name, and a place in the input. And the limits.
+ghost use mathlib.Core.Path.{_≡_};
+ghost use mathlib.Core.List.{_++_};
+ghost use Prim.Native.Nat.{_≤_};
+ghost use lib.ListN.{length, take, drop};
+
 pub struct Refusal {
     pub number: u8,
     pub place: usize,
@@ -68,3 +73,15 @@ pub const NO_ROW: u8 = 31;
 
 // A text has at most 1,000 characters.
 pub const LIMIT: usize = 1000;
+
+// The first n of the one over the first n of the other.
+pub fn copy(from: &[u8], to: &mut [u8], n: usize)
+    requires { ⌜ (n ≤ length (now from)) × (n ≤ length (now to)) ⌝ }
+    ensures { λ _. ⌜ now (to .exit) ≡ take n (now (from .entry)) ++ drop n (now (to .entry)) ⌝ }
+{
+    let mut i = 0;
+    while i < n {
+        to[i] = from[i];
+        i += 1;
+    }
+}

@@ -1,0 +1,4 @@
+pub mod Marks
+pub mod Steps
+pub mod Listed
+pub mod Lengths

@@ -1,0 +1,77 @@
+-- A dictionary: rows numbered from 0, each with an identifier, lengths and the characters of its data (document 01, "The text").
+use Prim.Native.Nat.{ℕ, zero, suc}
+use mathlib.Core.Bool.{Bool, true, false, not, _&&_, _||_}
+use mathlib.Core.List.{List, [], _∷_}
+use lib.Dec.{leb, eqb}
+use lib.ListN.{length}
+use Rattle.refusal.specs.Pick.{pick}
+use Rattle.refusal.specs.Answers.{Answer, good, refused}
+use Rattle.refusal.specs.Numbers.{unknown-identifier, no-row}
+use Rattle.dictionary.specs.declared.Kind.{Kind}
+use Rattle.dictionary.specs.declared.Kind.the-variants.{Numeric, Alphabetic, Alphanumeric}
+use Rattle.dictionary.specs.declared.Limit.{Limit}
+use Rattle.dictionary.specs.declared.Limit.the-variants.{UpTo, NoLimit}
+use Rattle.dictionary.specs.declared.Row.{Row}
+
+abbrev pub Dictionary : Type 0
+Dictionary = List Row
+
+abbrev pub between : ℕ → ℕ → ℕ → Bool
+between a b c = leb a c && leb c b
+
+abbrev pub digit : ℕ → Bool
+digit c = between 48 57 c
+
+abbrev pub upper : ℕ → Bool
+upper c = between 65 90 c
+
+-- Numérique is 0-9. Alphabétique is A-Z and space. Alphanumérique is characters 32 to 95.
+abbrev pub inKind : Kind → ℕ → Bool
+inKind Numeric c = digit c
+inKind Alphabetic c = upper c || eqb c 32
+inKind Alphanumeric c = between 32 95 c
+
+-- MAY THE CHARACTER c STAND in a row's data, behind the data so far? The type decides.
+unfoldable pub allowed : Row → (chars : List ℕ) → ℕ → Bool
+allowed r chars c = inKind (r .kind) c
+
+abbrev pub isLimit : Limit → ℕ → Bool
+isLimit (UpTo n) m = eqb m n
+isLimit NoLimit m = false
+
+-- fixed length: least equals greatest
+abbrev pub fixed : Row → Bool
+fixed r = isLimit (r .greatest) (r .least)
+
+-- the data have the greatest length
+abbrev pub full : Row → List ℕ → Bool
+full r chars = isLimit (r .greatest) (length chars)
+
+-- a row and its number
+pub record Numbered : Type 0 where
+  pub number : ℕ
+  pub row : Row
+
+-- the row with an identifier, the rows being numbered from k; refused at the place p where there is none
+unfoldable pub find : (a b : ℕ) → (k p : ℕ) → Dictionary → Answer Numbered
+find a b k p [] = refused unknown-identifier p
+find a b k p (r ∷ d) = pick (eqb a (r .first) && eqb b (r .second)) (good (record { number = k; row = r })) (find a b (suc k) p d)
+
+-- the row of a number; refused at the place i where there is none
+unfoldable pub rowAt : Dictionary → (number i : ℕ) → Answer Row
+rowAt [] n i = refused no-row i
+rowAt (r ∷ d) zero i = good r
+rowAt (r ∷ d) (suc n) i = rowAt d n i
+
+-- identifiers that are distinct, and hold no separator
+unfoldable pub listed : (a b : ℕ) → Dictionary → Bool
+listed a b [] = false
+listed a b (r ∷ d) = (eqb a (r .first) && eqb b (r .second)) || listed a b d
+
+unfoldable pub distinct : Dictionary → Bool
+distinct [] = true
+distinct (r ∷ d) = not (listed (r .first) (r .second) d) && distinct d
+
+unfoldable pub plain : Dictionary → Bool
+plain [] = true
+plain (r ∷ d) = (leb 32 (r .first) && leb 32 (r .second)) && plain d

@@ -1,0 +1,8 @@
+-- The theorems that span layers: covering and the round trips. `Whole` has the statements for whole texts.
+pub mod Pieces
+pub mod Covers
+pub mod Rows
+pub mod Back
+pub mod Signatures
+pub mod Heads
+pub mod Whole

@@ -1,0 +1,1 @@
+// Theorems on texts and messages, over any dictionary: see proofs/Whole.antt. There is no code.

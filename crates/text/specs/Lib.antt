@@ -1,0 +1,5 @@
+pub mod Header
+pub mod Zone
+pub mod Signature
+pub mod Text
+pub mod Samples
