@@ -1,8 +1,9 @@
 pub mod Meanings
 pub mod Sizes
 pub mod Reading
-pub mod Characters
-pub mod Pads
-pub mod Best
 pub mod Samples
 pub mod Corners
+pub mod Characters
+pub mod Numbered
+pub mod Pads
+pub mod Best

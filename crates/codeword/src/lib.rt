@@ -1,7 +1,12 @@
 // The data codewords of a symbol: what each means in its mode, and the sizes that a symbol has.
 ghost use mathlib.Core.Path.{_≡_};
 ghost use Rattle.codeword.specs.Meanings.{ascii, lone, pair, value, unfinished};
-ghost use Rattle.codeword.specs.Sizes.{isCapacity};
+ghost use Rattle.codeword.specs.Sizes.{isCapacity, capacities};
+ghost use Rattle.codeword.specs.Characters.{setOf, numberOf};
+ghost use Rattle.codeword.specs.Numbered.{setNumbered, isBasic};
+ghost use Rattle.codeword.specs.Pads.{padAt};
+ghost use Prim.Native.Nat.{_<_};
+ghost use lib.ListN.{getD};
 
 // The four sets of C40. Sets 1, 2 and 3 are also the shifts that wait for their value.
 pub enum Set {
@@ -183,4 +188,210 @@ pub fn is_capacity(n: usize) -> bool
         i += 1;
     }
     false
+}
+
+// The size number k, from the smallest.
+pub fn capacity(k: usize) -> usize
+    requires { ⌜ k < 24 ⌝ }
+    ensures { λ r. ⌜ r ≡ getD capacities k 0 ⌝ }
+{
+    CAPACITIES[k]
+}
+
+// Where a character stands in C40.
+pub struct Place {
+    pub set: Set,
+    pub number: u8,
+}
+
+// Character by character: 40 times its set (0 for the basic set, 1, 2 or 3), plus its number there.
+const PLACES: [u8; 128] = [
+    40,
+    41,
+    42,
+    43,
+    44,
+    45,
+    46,
+    47,
+    48,
+    49,
+    50,
+    51,
+    52,
+    53,
+    54,
+    55,
+    56,
+    57,
+    58,
+    59,
+    60,
+    61,
+    62,
+    63,
+    64,
+    65,
+    66,
+    67,
+    68,
+    69,
+    70,
+    71,
+    3,
+    80,
+    81,
+    82,
+    83,
+    84,
+    85,
+    86,
+    87,
+    88,
+    89,
+    90,
+    91,
+    92,
+    93,
+    94,
+    4,
+    5,
+    6,
+    7,
+    8,
+    9,
+    10,
+    11,
+    12,
+    13,
+    95,
+    96,
+    97,
+    98,
+    99,
+    100,
+    101,
+    14,
+    15,
+    16,
+    17,
+    18,
+    19,
+    20,
+    21,
+    22,
+    23,
+    24,
+    25,
+    26,
+    27,
+    28,
+    29,
+    30,
+    31,
+    32,
+    33,
+    34,
+    35,
+    36,
+    37,
+    38,
+    39,
+    102,
+    103,
+    104,
+    105,
+    106,
+    120,
+    121,
+    122,
+    123,
+    124,
+    125,
+    126,
+    127,
+    128,
+    129,
+    130,
+    131,
+    132,
+    133,
+    134,
+    135,
+    136,
+    137,
+    138,
+    139,
+    140,
+    141,
+    142,
+    143,
+    144,
+    145,
+    146,
+    147,
+    148,
+    149,
+    150,
+    151,
+];
+
+fn set_numbered(k: u8) -> Set
+    ensures { λ r. ⌜ r ≡ setNumbered k ⌝ }
+{
+    match k {
+        0 => Set::Basic,
+        1 => Set::Set1,
+        2 => Set::Set2,
+        _ => Set::Set3,
+    }
+}
+
+pub fn place_of(c: u8) -> Place
+    requires { ⌜ c < 128 ⌝ }
+    ensures { λ r. ⌜ (r .set ≡ setOf c) × (r .number ≡ numberOf c) ⌝ }
+{
+    let place = PLACES[c as usize];
+    let set = set_numbered(place / 40);
+    Place {
+        set,
+        number: place % 40,
+    }
+}
+
+// Whether a character takes one value: the space, a digit or a capital letter. Tests, and no table, for the writer asks at every character.
+pub fn is_basic(c: u8) -> bool
+    ensures { λ r. ⌜ r ≡ isBasic (setOf c) ⌝ }
+{
+    if c < 32 {
+        return false;
+    }
+    if c == 32 {
+        return true;
+    }
+    if c < 48 {
+        return false;
+    }
+    if c < 58 {
+        return true;
+    }
+    if c < 65 {
+        return false;
+    }
+    c < 91
+}
+
+// Padding starts with 129. A later pad at place p (the first codeword is place 1) is 129 + ((149p mod 253) + 1), less 254 if above 254.
+pub fn pad_at(first: usize, i: usize) -> u8
+    requires { ⌜ i < 1558 ⌝ }
+    ensures { λ r. ⌜ r ≡ padAt first i ⌝ }
+{
+    if i == first {
+        return 129;
+    }
+    let pad = 129 + (149 * (i + 1) % 253 + 1);
+    if 254 < pad {
+        return (pad - 254) as u8;
+    }
+    pad as u8
 }

@@ -61,7 +61,8 @@ fn wide(x: u16) -> usize
     x as usize
 }
 
-// The marks of all rows: who asks for them has a copy, so it is made before a loop and not in it.
+// The marks of all rows. Who asks has a copy of 550 bytes: `first_missing` has it before its loop, and `note` one for each record,
+// so that the state, which goes from call to call, stays small.
 fn all_marks() -> [u8; 550]
     ensures { λ r. ⌜ r ≡ marksFrom rowCount 0 ⌝ }
 {

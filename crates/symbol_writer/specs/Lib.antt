@@ -1,0 +1,5 @@
+pub mod Rows
+pub mod Moves
+pub mod Codewords
+pub mod Sizes
+pub mod Symbol
