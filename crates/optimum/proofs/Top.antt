@@ -206,3 +206,16 @@ right t hs short max = go (choose capacities max t) (chosen max t)
     go : (x : Choice) → Found capacities max t x → Answer t max x
     go (at c n b) G = best t short hs max c n b G
     go nothing F = record { nothing = none-fits t max F }
+
+-- and its symbol has the capacity and the count that were chosen
+abbrev pub Sized : List ℕ → Choice → Type 0
+Sized t (at c n b) = (length (write b n inAscii t) ≡ n) × (length (symbolOf (at c n b) t) ≡ c) × (used (symbolOf (at c n b) t) ≡ n)
+Sized t nothing = Unit {0}
+
+pub sized : (t : List ℕ) → Chars t → length t ≤ limit → (max : ℕ) → Sized t (choose capacities max t)
+unfolding head
+sized t hs short max = go (choose capacities max t) (chosen max t)
+  where
+    go : (x : Choice) → Found capacities max t x → Sized t x
+    go (at c n b) G = (written t short hs max c n b G .count, length-ws t short hs max c n b G, used-ws t short hs max c n b G)
+    go nothing F = tt

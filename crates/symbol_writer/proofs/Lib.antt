@@ -4,3 +4,4 @@ pub mod Greedy
 pub mod Output
 pub mod Choice
 pub mod Whole
+pub mod Promise

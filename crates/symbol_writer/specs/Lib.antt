@@ -3,3 +3,4 @@ pub mod Moves
 pub mod Codewords
 pub mod Sizes
 pub mod Symbol
+pub mod Promise

@@ -29,6 +29,7 @@ ghost use Rattle.optimum.specs.Write.{write, choose};
 ghost use Rattle.symbol_writer.specs.Rows.{workRoom, Filled};
 ghost use Rattle.symbol_writer.specs.Moves.{Lent};
 ghost use Rattle.symbol_writer.specs.Sizes.{IsChosen};
+ghost use Rattle.symbol_writer.specs.Promise.{Promised, workLeft};
 ghost use Rattle.symbol_writer.specs.Symbol.{firstAbove, zeros, padded, inSize, writeSymbol, answered, symbolAfter, workAfter, PutSymbol, Within};
 
 // The work slice has at least 8,192 numbers, of which the first 8,192 are zero on return.
@@ -128,12 +129,8 @@ fn write_within(text: &[u8], largest: usize, work: &mut [u16], symbol: &mut [u8]
     SymbolWritten::Written(capacity, done)
 }
 
-pub fn write_symbol(
-    text: &[u8],
-    largest: usize,
-    work: &mut [u16],
-    symbol: &mut [u8],
-) -> SymbolWritten
+// The refusals in their order, and the symbol that the costs give.
+fn write_by_costs(text: &[u8], largest: usize, work: &mut [u16], symbol: &mut [u8]) -> SymbolWritten
     ensures answer { λ r. ⌜ r ≡ answered (writeSymbol (now (text .entry)) largest (length (now (work .entry))) (length (now (symbol .entry)))) ⌝ }
     ensures output { λ r. ⌜ now (symbol .exit) ≡ symbolAfter (writeSymbol (now (text .entry)) largest (length (now (work .entry))) (length (now (symbol .entry)))) (now (symbol .entry)) ⌝ }
     ensures lent { λ r. ⌜ now (work .exit) ≡ workAfter (writeSymbol (now (text .entry)) largest (length (now (work .entry))) (length (now (symbol .entry)))) (now (work .entry)) ⌝ }
@@ -154,4 +151,17 @@ pub fn write_symbol(
     let answer = write_within(text, largest, work, symbol);
     clear(work);
     answer
+}
+
+// Writes the symbol of a text: the smallest up to the largest permitted size in which any codewords read as the text.
+pub fn write_symbol(
+    text: &[u8],
+    largest: usize,
+    work: &mut [u16],
+    symbol: &mut [u8],
+) -> SymbolWritten
+    ensures says { λ r. ⌜ Promised (now (text .entry)) largest (length (now (work .entry))) (now (symbol .entry)) (now (symbol .exit)) r ⌝ }
+    ensures lent { λ r. ⌜ now (work .exit) ≡ workLeft (now (text .entry)) largest (now (work .entry)) ⌝ }
+{
+    write_by_costs(text, largest, work, symbol)
 }
