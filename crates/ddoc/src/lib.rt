@@ -3,8 +3,10 @@ ghost use mathlib.Core.Path.{_≡_};
 ghost use lib.ListN.{length};
 ghost use Rattle.codeword.specs.Reading.{readSymbol};
 ghost use Rattle.symbol_reader.specs.Answers.{lentAfter};
-ghost use Rattle.ddoc.specs.Answers.{readingAnswer};
+ghost use Rattle.symbol_writer.specs.Promise.{workLeft};
+ghost use Rattle.ddoc.specs.Answers.{readingAnswer, Writes};
 use symbol_reader::SymbolRead;
+use symbol_writer::SymbolWritten;
 
 // Accepted: number 0 and place 0. Refused: length and used 0.
 #[repr(C)]
@@ -29,6 +31,34 @@ pub extern "C" fn ddoc_read_symbol(codewords: &[u8], text: &mut [u8]) -> Answer
             used: used,
         },
         SymbolRead::Refused(r) => Answer {
+            number: r.number as usize,
+            place: r.place,
+            length: 0,
+            used: 0,
+        },
+    }
+}
+
+// The answer's length is the capacity of the symbol written.
+#[no_mangle]
+pub extern "C" fn ddoc_write_symbol(
+    text: &[u8],
+    largest: usize,
+    work: &mut [u16],
+    symbol: &mut [u8],
+) -> Answer
+    ensures says { λ r. ⌜ Writes (now (text .entry)) largest (length (now (work .entry))) (now (symbol .entry)) (now (symbol .exit)) r ⌝ }
+    ensures lent { λ r. ⌜ now (work .exit) ≡ workLeft (now (text .entry)) largest (now (work .entry)) ⌝ }
+{
+    let answer = symbol_writer::write_symbol(text, largest, work, symbol);
+    match answer {
+        SymbolWritten::Written(capacity, used) => Answer {
+            number: 0,
+            place: 0,
+            length: capacity,
+            used: used,
+        },
+        SymbolWritten::Refused(r) => Answer {
             number: r.number as usize,
             place: r.place,
             length: 0,
