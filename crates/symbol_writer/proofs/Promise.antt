@@ -26,9 +26,9 @@ use Rattle.symbol_writer.specs.declared.SymbolWritten.{SymbolWritten}
 use Rattle.symbol_writer.specs.declared.SymbolWritten.the-variants.{Written, Refused}
 use Rattle.symbol_writer.specs.Rows.{workRoom}
 use Rattle.symbol_writer.specs.Moves.{Chars}
-use Rattle.symbol_writer.specs.Symbol.{Answer, firstAbove, zeros, padded, inSize, writeSymbol, answered, symbolAfter, workAfter}
+use Rattle.symbol_writer.specs.Symbol.{Answer, firstAbove, zeros, withPads, inSize, writeSymbol, answered, symbolAfter, workAfter}
 use Rattle.symbol_writer.specs.Promise.{Stands, TooShort, Chosen, Promised, refusedEarly, workLeft}
-use Rattle.symbol_writer.proofs.Whole.{chars-of}
+use Rattle.symbol_writer.proofs.Whole.{chars-of, symbol-is, work-cleared}
 
 listed : (t : List ℕ) → Chars t → Values.Chars t
 listed [] h = tt
@@ -40,12 +40,9 @@ module _ (t : List ℕ) (largest : ℕ) (old new : List ℕ) (r : SymbolWritten)
       → r ≡ answered (inSize (length old) t (at c n b)) → new ≡ symbolAfter (inSize (length old) t (at c n b)) old → Chosen t largest old new r
   in-size c n b B S = go (ltb (length old) c) refl
     where
-      same : padded c (write b n inAscii t) ≡ symbolOf (at c n b) t
-      same = ap (λ k. write b n inAscii t ++ padding k k (c - k)) (S .0)
-
       go : (x : Bool) → ltb (length old) c ≡ x
-          → r ≡ answered (pick x (Answer.cleared lent-too-short 0) (Answer.written c (length (write b n inAscii t)) (padded c (write b n inAscii t))))
-          → new ≡ symbolAfter (pick x (Answer.cleared lent-too-short 0) (Answer.written c (length (write b n inAscii t)) (padded c (write b n inAscii t)))) old
+          → r ≡ answered (pick x (Answer.cleared lent-too-short 0) (Answer.written c (length (write b n inAscii t)) (withPads c (write b n inAscii t))))
+          → new ≡ symbolAfter (pick x (Answer.cleared lent-too-short 0) (Answer.written c (length (write b n inAscii t)) (withPads c (write b n inAscii t)))) old
           → Chosen t largest old new r
       go true q e f = rw e (f, inr (refl, record { ws = symbolOf (at c n b) t; best = B; short = omega (arith, S .1, ltb-true (length old) c q) }))
       go false q e f =
@@ -56,7 +53,7 @@ module _ (t : List ℕ) (largest : ℕ) (old new : List ℕ) (r : SymbolWritten)
             size = sym (S .1);
             count = S .0 ∙ sym (S .2);
             room = omega (arith, S .1, ltb-false (length old) c q);
-            output = f ∙ ap (λ s. s ++ drop (length s) old) same;
+            output = f ∙ ap (λ s. s ++ drop (length s) old) (symbol-is c n b t (S .0));
           })
 
   by-choice : (x : Choice) → Top.Answer t largest x → Sized t x
@@ -94,25 +91,12 @@ module _ (t : List ℕ) (largest : ℕ) (old new : List ℕ) (r : SymbolWritten)
           let chars = listed t (chars-of t (omega (arith, ltb-false (firstAbove t) (length t) q))) in
           by-choice (choose capacities largest t) (right t chars short largest) (sized t chars short largest) e f
 
--- the work slice
-cleared-always : (room : ℕ) (t : List ℕ) (x : Choice) (old : List ℕ) → workAfter (inSize room t x) old ≡ zeros workRoom ++ drop workRoom old
-cleared-always room t (at c n b) old = go (ltb room c)
-  where
-    go : (x : Bool)
-        → workAfter (pick x (Answer.cleared lent-too-short 0) (Answer.written c (length (write b n inAscii t)) (padded c (write b n inAscii t)))) old
-        ≡ zeros workRoom ++ drop workRoom old
-    go true = refl
-    go false = refl
-cleared-always room t nothing old = refl
-
+-- THE WORK SLICE
 pub left-as-promised : (t : List ℕ) (largest room : ℕ) (old : List ℕ) → workAfter (writeSymbol t largest (length old) room) old ≡ workLeft t largest old
 unfolding writeSymbol
 left-as-promised t largest room old =
     go (ltb limit (length t)) (ltb (firstAbove t) (length t)) (isCapacity largest) (ltb (length old) workRoom)
   where
-    open-end : workAfter (inSize room t (choose capacities largest t)) old ≡ zeros workRoom ++ drop workRoom old
-    open-end = cleared-always room t (choose capacities largest t) old
-
     go : (a b c d : Bool)
         → workAfter
         (pick a (Answer.refused text-too-long 0)
@@ -125,7 +109,7 @@ left-as-promised t largest room old =
     go false true c d = refl
     go false false false d = refl
     go false false true true = refl
-    go false false true false = open-end
+    go false false true false = work-cleared room t (choose capacities largest t) old
 
 -- ONE ANSWER ONLY
 module _ (t : List ℕ) (largest : ℕ) (old : List ℕ) where

@@ -16,14 +16,14 @@ use Rattle.refusal.specs.Limits.{limit}
 use Rattle.codeword.specs.Sizes.{capacities, isCapacity}
 use Rattle.codeword.specs.Reading.{inAscii}
 use Rattle.optimum.specs.Cost.{cost}
-use Rattle.optimum.specs.Write.{Choice, at, nothing, write, choose, fewest, padding}
+use Rattle.optimum.specs.Write.{Choice, at, nothing, write, choose, fewest, padding, symbolOf}
 use Rattle.symbol_writer.specs.declared.costs.Costs.{Costs}
 use Rattle.symbol_writer.specs.declared.SymbolWritten.{SymbolWritten}
 use Rattle.symbol_writer.specs.declared.SymbolWritten.the-variants.{Written, Refused}
 use Rattle.symbol_writer.specs.Rows.{workRoom, costsOf}
 use Rattle.symbol_writer.specs.Moves.{Chars}
 use Rattle.symbol_writer.specs.Codewords.{Put}
-use Rattle.symbol_writer.specs.Symbol.{Answer, written, refused, cleared, firstAbove, padded, inSize, writeSymbol, answered, symbolAfter, zeros, workAfter, Within}
+use Rattle.symbol_writer.specs.Symbol.{Answer, written, refused, cleared, firstAbove, withPads, inSize, writeSymbol, answered, symbolAfter, zeros, workAfter, Within}
 use Rattle.symbol_writer.proofs.Rows.{drop-on}
 use Rattle.symbol_writer.proofs.Output.{Front, store, stored-all}
 
@@ -77,10 +77,7 @@ length-padding first i zero = refl
 length-padding first i (suc n) = ap suc (length-padding first (suc i) n)
 
 module _ (ws : List ℕ) (n capacity : ℕ) (old mid : List ℕ) (done : ℕ) (P : Put ws n old mid done) (fits : n ≤ capacity) (room : capacity ≤ length old) where
-  pub put-length : length mid ≡ length old
-  put-length = ap length (P .is) ∙ length-append ws (drop done old) ∙ omega (arith, P .count, P .few, length-drop done old)
-
-  pub symbol-put : (new : List ℕ) → new ≡ (take done mid ++ padding done done (capacity - done)) ++ drop capacity mid → (new ≡ padded capacity ws ++ drop capacity old) × (length (padded capacity ws) ≡ capacity)
+  pub symbol-put : (new : List ℕ) → new ≡ (take done mid ++ padding done done (capacity - done)) ++ drop capacity mid → (new ≡ withPads capacity ws ++ drop capacity old) × (length (withPads capacity ws) ≡ capacity)
   symbol-put new e = (
     e ∙ rw (front, behind, P .count),
     length-append ws (padding (length ws) (length ws) (capacity - length ws)) ∙ omega (arith, length-padding (length ws) (length ws) (capacity - length ws), P .count, P .few),
@@ -94,6 +91,10 @@ module _ (ws : List ℕ) (n capacity : ℕ) (old mid : List ℕ) (done : ℕ) (P
           drop-on done capacity mid (omega (arith, P .few)) ∙ ap (drop (capacity - done)) (ap (drop done) (P .is) ∙ drop-at ws (drop done old) done (sym (P .count)))
           ∙ sym (drop-on done capacity old (omega (arith, P .few)))
 
+-- where the codewords are as many as were asked for, the symbol is the one of the choice
+pub symbol-is : (c n : ℕ) (b : Bool) (t : List ℕ) → length (write b n inAscii t) ≡ n → withPads c (write b n inAscii t) ≡ symbolOf (at c n b) t
+symbol-is c n b t e = rw e
+
 -- IN A SIZE
 module _ (room : ℕ) (t : List ℕ) (x : Choice) (old work work′ : List ℕ) (r : SymbolWritten) (long : length work′ ≡ length work) (rest : drop workRoom work′ ≡ drop workRoom work) where
   pub none-fits : nothing ≡ x → r ≡ Refused (refusal no-size-fits 0) → Within (inSize room t x) old old work work′ r
@@ -103,7 +104,7 @@ module _ (room : ℕ) (t : List ℕ) (x : Choice) (old work work′ : List ℕ) 
     pub no-room : room < c → r ≡ Refused (refusal lent-too-short 0) → Within (inSize room t x) old old work work′ r
     no-room h q = rw (← e, lt-ltb room c h, q) (record { answer = refl; output = refl; long = long; rest = rest })
 
-    pub is-written : c ≤ room → (new : List ℕ) (done : ℕ) → done ≡ length (write b n inAscii t) → new ≡ padded c (write b n inAscii t) ++ drop c old → length (padded c (write b n inAscii t)) ≡ c → r ≡ Written c done → Within (inSize room t x) old new work work′ r
+    pub is-written : c ≤ room → (new : List ℕ) (done : ℕ) → done ≡ length (write b n inAscii t) → new ≡ withPads c (write b n inAscii t) ++ drop c old → length (withPads c (write b n inAscii t)) ≡ c → r ≡ Written c done → Within (inSize room t x) old new work work′ r
     is-written h new done p i s q =
         rw (← e, le-ltb room c h, q, p) (record { answer = refl; output = rw s i; long = long; rest = rest })
 
@@ -137,14 +138,19 @@ pub work-cleared : (room : ℕ) (t : List ℕ) (x : Choice) (old : List ℕ) →
 work-cleared room t nothing old = refl
 work-cleared room t (at c n b) old = go (ltb room c)
   where
-    go : (y : Bool) → workAfter (pick y (cleared lent-too-short 0) (written c (length (write b n inAscii t)) (padded c (write b n inAscii t)))) old ≡ zeros workRoom ++ drop workRoom old
+    go : (y : Bool) → workAfter (pick y (cleared lent-too-short 0) (written c (length (write b n inAscii t)) (withPads c (write b n inAscii t)))) old ≡ zeros workRoom ++ drop workRoom old
     go true = refl
     go false = refl
 
--- the three promises, at a refusal before the work slice is used and behind its use
-pub told-early : (x : Answer) (k p : ℕ) (r : SymbolWritten) (old lent : List ℕ) → x ≡ refused k p → r ≡ Refused (refusal k p) → (r ≡ answered x) × ((old ≡ symbolAfter x old) × (lent ≡ workAfter x lent))
+-- THE THREE PROMISES: the answer, the output and the work slice
+abbrev pub Told : Answer → (old lent : List ℕ) → SymbolWritten → (new back : List ℕ) → Type 0
+Told x old lent r new back = (r ≡ answered x) × ((new ≡ symbolAfter x old) × (back ≡ workAfter x lent))
+
+-- at a refusal before the work slice is used
+pub told-early : (x : Answer) (k p : ℕ) (r : SymbolWritten) (old lent : List ℕ) → x ≡ refused k p → r ≡ Refused (refusal k p) → Told x old lent r old lent
 told-early x k p r old lent e q = rw (e, q) (refl, (refl, refl))
 
-pub told-late : (room : ℕ) (t : List ℕ) (choice : Choice) (x : Answer) (r : SymbolWritten) (old new lent used back : List ℕ) → x ≡ inSize room t choice → Within (inSize room t choice) old new lent used r → back ≡ zeros workRoom ++ drop workRoom used → (r ≡ answered x) × ((new ≡ symbolAfter x old) × (back ≡ workAfter x lent))
+-- behind its use
+pub told-late : (room : ℕ) (t : List ℕ) (choice : Choice) (x : Answer) (r : SymbolWritten) (old new lent used back : List ℕ) → x ≡ inSize room t choice → Within (inSize room t choice) old new lent used r → back ≡ zeros workRoom ++ drop workRoom used → Told x old lent r new back
 told-late room t choice x r old new lent used back e W q =
     rw e (W .answer, (W .output, q ∙ ap (λ l. zeros workRoom ++ l) (W .rest) ∙ sym (work-cleared room t choice lent)))

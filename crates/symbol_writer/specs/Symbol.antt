@@ -26,13 +26,13 @@ firstAbove [] = 0
 firstAbove (c ∷ t) = pick (ltb 127 c) 0 (suc (firstAbove t))
 
 -- codewords, with pads up to the capacity
-abbrev pub padded : (capacity : ℕ) → List ℕ → List ℕ
-padded c ws = ws ++ padding (length ws) (length ws) (c - length ws)
+abbrev pub withPads : (capacity : ℕ) → List ℕ → List ℕ
+withPads c ws = ws ++ padding (length ws) (length ws) (c - length ws)
 
 -- the size that was chosen: 9 when there is none, 6 for an output shorter than the symbol
 abbrev pub inSize : (room : ℕ) → List ℕ → Choice → Answer
 inSize room t (at c n b) =
-    pick (ltb room c) (cleared lent-too-short 0) (written c (length (write b n inAscii t)) (padded c (write b n inAscii t)))
+    pick (ltb room c) (cleared lent-too-short 0) (written c (length (write b n inAscii t)) (withPads c (write b n inAscii t)))
 inSize room t nothing = cleared no-size-fits 0
 
 -- THE SYMBOL OF A TEXT, or the first refusal that holds. Order: 5, 7 at the first, 8, 6 for the work slice, 9, 6 for the output.
@@ -68,8 +68,8 @@ workAfter (cleared k p) old = zeros workRoom ++ drop workRoom old
 -- the codewords ws and their pads are put, and the work slice is kept beyond its first entries
 pub record PutSymbol (ws : List ℕ) (capacity : ℕ) (old new work work′ : List ℕ) (done : ℕ) : Type 0 where
   pub count : done ≡ length ws
-  pub is : new ≡ padded capacity ws ++ drop capacity old
-  pub size : length (padded capacity ws) ≡ capacity
+  pub is : new ≡ withPads capacity ws ++ drop capacity old
+  pub size : length (withPads capacity ws) ≡ capacity
   pub long : length work′ ≡ length work
   pub rest : drop workRoom work′ ≡ drop workRoom work
 

@@ -30,7 +30,7 @@ ghost use Rattle.symbol_writer.specs.Rows.{workRoom, Filled};
 ghost use Rattle.symbol_writer.specs.Moves.{Lent};
 ghost use Rattle.symbol_writer.specs.Sizes.{IsChosen};
 ghost use Rattle.symbol_writer.specs.Promise.{Promised, workLeft};
-ghost use Rattle.symbol_writer.specs.Symbol.{firstAbove, zeros, padded, inSize, writeSymbol, answered, symbolAfter, workAfter, PutSymbol, Within};
+ghost use Rattle.symbol_writer.specs.Symbol.{firstAbove, zeros, inSize, writeSymbol, answered, symbolAfter, workAfter, PutSymbol, Within};
 
 // The work slice has at least 8,192 numbers, of which the first 8,192 are zero on return.
 const WORK_ROOM: usize = 8192;

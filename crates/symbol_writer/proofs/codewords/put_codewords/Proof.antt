@@ -41,10 +41,14 @@ put-move-requires c κs =
     room-for _ _ _ _ _ _ _ _ (l .loop .inv) (long-enough l) (c .before .before .loop-test .taken) (c .before .next-move .result) (c .before .next-move .ensures .low)
 
 -- behind a move
-goes-on : (c : tie.After-put-move Inv-loop μ-loop) → Onward (c .before .before .before .before .before .before .before .before .args .padded) (c .before .before .before .before .before .before .before .before .args .text .now) (c .before .before .before .before .before .before .before .before .args .n) (c .before .before .before .before .before .before .before .before .args .symbol .now) (c .put-move .last .1 .1 .0) (c .before .before .before .before .loop .done) (c .put-move .result)
+goes-on : (c : tie.After-put-move Inv-loop μ-loop) →
+    let s = c .before .before .before .before .before .before .before .before in
+    Onward (s .args .padded) (s .args .text .now) (s .args .n) (s .args .symbol .now) (c .put-move .last .1 .1 .0) (c .before .before .before .before .loop .done) (c .put-move .result)
 goes-on c =
     let l = c .before .before .before .before in
-    onward _ _ _ _ _ _ _ _ (l .loop .inv) (long-enough l) (c .before .before .before .loop-test .taken) (c .before .before .next-move .result) _ _ (c .before .before .next-move .ensures .is) (c .before .before .next-move .ensures .low) (c .put-move .ensures .0) (c .put-move .ensures .1)
+    let m = c .before .before .next-move in
+    onward _ _ _ _ _ _ _ _ (l .loop .inv) (long-enough l) (c .before .before .before .loop-test .taken) (m .result) _ _ (m .ensures .is) (m .ensures .low)
+    (c .put-move .ensures .0) (c .put-move .ensures .1)
 
 enum-known-after : tie.Need-enum-known-after Inv-loop μ-loop
 enum-known-after c = search needs
@@ -60,7 +64,10 @@ returns c =
     let s = c .before .before .before .before .before .before .before .before .before .before .before .before in
     subst (λ (a : After). Onward (s .args .padded) (s .args .text .now) (s .args .n) (s .args .symbol .now) (c .before .before .before .before .put-move .last .1 .1 .0) (c .before .before .before .before .before .before .before .before .loop .done) a) (c .enum-told .given .1) (goes-on (c .before .before .before .before))
 
-further : (c : tie.After-known-told Inv-loop μ-loop) → Writing (c .before .before .before .before .before .before .before .before .before .before .before .before .before .args .padded) (c .before .before .before .before .before .before .before .before .before .before .before .before .before .args .text .now) (c .before .before .before .before .before .before .before .before .before .before .before .before .before .args .n) (c .before .before .before .before .before .before .before .before .before .before .before .before .before .args .symbol .now) (c .before .before .before .before .before .put-move .last .1 .1 .0) (c .before .after .given .0 .0) (c .before .after .given .0 .1 .0) (c .before .after .given .0 .1 .1 .0) × (c .before .before .before .before .before .before .before .before .before .loop .done < c .before .after .given .0 .1 .1 .0)
+further : (c : tie.After-known-told Inv-loop μ-loop) →
+    let s = c .before .before .before .before .before .before .before .before .before .before .before .before .before in
+    let to = c .before .after .given .0 in
+    Writing (s .args .padded) (s .args .text .now) (s .args .n) (s .args .symbol .now) (c .before .before .before .before .before .put-move .last .1 .1 .0) (to .0) (to .1 .0) (to .1 .1 .0) × (c .before .before .before .before .before .before .before .before .before .loop .done < to .1 .1 .0)
 further c =
     let s = c .before .before .before .before .before .before .before .before .before .before .before .before .before in
     subst (λ (a : After). Onward (s .args .padded) (s .args .text .now) (s .args .n) (s .args .symbol .now) (c .before .before .before .before .before .put-move .last .1 .1 .0) (c .before .before .before .before .before .before .before .before .before .loop .done) a) (c .before .after .given .1) (goes-on (c .before .before .before .before .before))

@@ -33,7 +33,10 @@ put-row-requires : tie.Need-put-row-requires Inv-loop μ-loop
 put-row-requires c κs = omega arith
 
 -- behind the first row that is stored
-at-end : (c : tie.After-put-row Inv-loop μ-loop) → (c .before .before .costs-at-end .result ≡ costsOf (cost (c .before .before .before .before .before .args .padded) (drop (length (c .before .before .before .before .before .args .text .now)) (c .before .before .before .before .before .args .text .now)))) × Filled (c .before .before .before .before .before .args .padded) (c .before .before .before .before .before .args .text .now) (c .before .before .before .before .before .args .work .now) (c .put-row .last .0) (length (c .before .before .before .before .before .args .text .now))
+at-end : (c : tie.After-put-row Inv-loop μ-loop) →
+    let s = c .before .before .before .before .before .args in
+    let t = s .text .now in
+    (c .before .before .costs-at-end .result ≡ costsOf (cost (s .padded) (drop (length t) t))) × Filled (s .padded) t (s .work .now) (c .put-row .last .0) (length t)
 at-end c =
     let s = c .before .before .before .before .before in
     let F = filled-last (s .args .padded) (s .args .text .now) (s .args .work .now) (c .before .before .costs-at-end .result) (omega arith) (omega arith) (c .before .before .costs-at-end .ensures) in

@@ -32,7 +32,10 @@ returns c =
     record { is = λ b F. pair-none b (s .args .n) (s .args .set) (drop (s .args .i) (s .args .text .now)) (sym (ap (λ (r : NextValue). stepOf r (s .args .text .now)) (c .enum-told .given .1)) ∙ c .before .before .next-value .ensures .is); low = tt }
 
 -- the first value, where there is one
-first-is : (c : tie.After-first) → val (c .first .given .0 .0) (c .first .given .0 .1 .0) (drop (c .first .given .0 .1 .1 .0) (c .before .before .before .before .before .args .text .now)) ≡ next (c .before .before .before .before .before .args .set) (drop (c .before .before .before .before .before .args .i) (c .before .before .before .before .before .args .text .now))
+first-is : (c : tie.After-first) →
+    let s = c .before .before .before .before .before .args in
+    let v = c .first .given .0 in
+    val (v .0) (v .1 .0) (drop (v .1 .1 .0) (s .text .now)) ≡ next (s .set) (drop (s .i) (s .text .now))
 first-is c = sym (ap (λ (r : NextValue). stepOf r (c .before .before .before .before .before .args .text .now)) (c .first .given .1)) ∙ c .before .before .next-value .ensures .is
 
 first-low : (c : tie.After-first) → (c .first .given .0 .0 < 40) × (c .first .given .0 .1 .1 .0 ≤ length (c .before .before .before .before .before .args .text .now))
@@ -55,7 +58,11 @@ returns-2 c =
     record { is = λ b F. pair-one b (s .args .n) (s .args .set) (drop (s .args .i) (s .args .text .now)) _ _ _ (first-is (c .before .before .before .before)) (sym (ap (λ (r : NextValue). stepOf r (s .args .text .now)) (c .enum-told2 .given .1)) ∙ c .before .before .next-value2 .ensures .is); low = tt }
 
 -- the second
-second-is : (c : tie.After-second) → val (c .second .given .0 .0) (c .second .given .0 .1 .0) (drop (c .second .given .0 .1 .1 .0) (c .before .before .before .before .before .before .before .before .before .args .text .now)) ≡ next (c .before .before .before .before .first .given .0 .1 .0) (drop (c .before .before .before .before .first .given .0 .1 .1 .0) (c .before .before .before .before .before .before .before .before .before .args .text .now))
+second-is : (c : tie.After-second) →
+    let t = c .before .before .before .before .before .before .before .before .before .args .text .now in
+    let u = c .before .before .before .before .first .given .0 in
+    let v = c .second .given .0 in
+    val (v .0) (v .1 .0) (drop (v .1 .1 .0) t) ≡ next (u .1 .0) (drop (u .1 .1 .0) t)
 second-is c = sym (ap (λ (r : NextValue). stepOf r (c .before .before .before .before .before .before .before .before .before .args .text .now)) (c .second .given .1)) ∙ c .before .before .next-value2 .ensures .is
 
 second-low : (c : tie.After-second) → (c .second .given .0 .0 < 40) × (c .second .given .0 .1 .1 .0 ≤ length (c .before .before .before .before .before .before .before .before .before .args .text .now))
