@@ -2,6 +2,7 @@
 ghost use mathlib.Core.Path.{_≡_};
 ghost use lib.ListN.{length};
 use symbol_reader::SymbolRead;
+use symbol_writer::SymbolWritten;
 
 // A control character is printed as its number in brackets, as document 01 writes it.
 fn show_character(c: u8) {
@@ -36,6 +37,18 @@ fn show_codewords(codewords: &[u8]) {
     let mut i = 0;
     while i < codewords.len() {
         show_codeword(codewords[i]);
+        i += 1;
+    }
+}
+
+// The first n codewords of a lent symbol.
+fn show_first(symbol: &[u8], n: usize) {
+    let mut i = 0;
+    while i < symbol.len() {
+        if n <= i {
+            return;
+        }
+        show_codeword(symbol[i]);
         i += 1;
     }
 }
@@ -84,6 +97,42 @@ fn latches() -> [u8; 1558]
     codewords
 }
 
+// A text in a symbol of at most the largest size.
+fn write(text: &[u8], largest: usize) {
+    let mut work = [0u16; 8192];
+    let mut symbol = [0u8; 1558];
+    let answer = symbol_writer::write_symbol(text, largest, &mut work, &mut symbol);
+    match answer {
+        SymbolWritten::Written(capacity, used) => {
+            show_first(&symbol, capacity);
+            io::write_all(1, b"codewords before padding: ");
+            io::print_decimal(1, used as u64);
+        }
+        SymbolWritten::Refused(r) => show_refusal(r),
+    }
+    io::write_all(1, b"\n");
+}
+
+fn write_shown(text: &[u8], largest: usize) {
+    io::write_all(1, text);
+    io::write_all(1, b", largest size ");
+    io::print_decimal(1, largest as u64);
+    io::write_all(1, b": ");
+    write(text, largest);
+}
+
+fn symbols_written() {
+    io::write_all(1, b"Symbols written\n");
+    write_shown(b"", 1558);
+    write_shown(b"123456", 1558);
+    write_shown(b"ABC", 1558);
+    write_shown(b"AB", 1558);
+    write_shown(b"ABCD", 1558);
+    write_shown(b"AIMAIMAIM", 1558);
+    write_shown(b"ABCD", 3);
+    write_shown(b"ABCD", 4);
+}
+
 fn symbols_read() {
     io::write_all(1, b"Symbols read\n");
     read_shown(&[230, 87, 158]);
@@ -93,16 +142,10 @@ fn symbols_read() {
     read_shown(&[230, 0, 0]);
     read_shown(&[230, 89, 218]);
     read_shown(&[66, 67, 68, 129]);
-    io::write_all(1, b"Symbols written, read back\n");
-    read_shown(&[129, 175, 70]);
-    read_shown(&[142, 164, 186]);
-    read_shown(&[230, 89, 233]);
-    read_shown(&[66, 67, 129]);
-    read_shown(&[66, 67, 68, 69, 129]);
-    read_shown(&[230, 91, 11, 91, 11, 91, 11, 254]);
 }
 
 fn main() {
+    symbols_written();
     symbols_read();
     io::write_all(1, b"1558 codewords, 230 254 in turn: ");
     let most = latches();

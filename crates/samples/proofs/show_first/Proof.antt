@@ -1,0 +1,56 @@
+-- `show_first` is safe and ends: the index stays within the slice.
+-- Assumes nothing.
+use Prim.Native.Nat.{_-_, _≤_}
+use native.Mathlib.Omega.{arith}
+use lib.ListN.{length}
+use borrow.Author.Needs.{needs}
+use Rattle.samples.proofs.show_first.Statement.{statement}
+use Rattle.samples.proofs.show_first.Tie as tie
+use Rattle.samples.proofs.show_first.Reads as reads
+use Rattle.samples.proofs.show_first.Lts as lts
+use Rattle.samples.proofs.show_codeword.Reads as show-codeword-reads
+
+abbrev Inv-loop : tie.InvT-loop
+Inv-loop symbol n i₀ i = i ≤ length symbol
+
+abbrev μ-loop : tie.MeasureT-loop
+μ-loop symbol n i₀ i = length symbol - i
+
+loop-holds : tie.Need-loop-holds Inv-loop μ-loop
+loop-holds c = omega arith
+
+returns : tie.Need-returns Inv-loop μ-loop
+returns c = search needs
+
+shared-slice-read-show-codeword : tie.Need-shared-slice-read-show-codeword Inv-loop μ-loop
+shared-slice-read-show-codeword c = omega arith
+
+show-codeword-requires : tie.Need-show-codeword-requires Inv-loop μ-loop
+show-codeword-requires c κs = search needs
+
+add-i : tie.Need-add-i Inv-loop μ-loop
+add-i c = omega arith
+
+loop-less : tie.Need-loop-less Inv-loop μ-loop
+loop-less c = omega arith
+
+loop-again : tie.Need-loop-again Inv-loop μ-loop
+loop-again c = omega arith
+
+returns-2 : tie.Need-returns-2 Inv-loop μ-loop
+returns-2 c = search needs
+
+pub show-first-spec : {M : Type 1} → statement M
+show-first-spec =
+    tie.close
+    (tie.spec
+    Inv-loop
+    μ-loop
+    loop-holds
+    returns
+    shared-slice-read-show-codeword
+    show-codeword-requires
+    add-i
+    loop-less
+    loop-again
+    returns-2)
