@@ -16,6 +16,12 @@ class Answer(ctypes.Structure):
     _fields_ = [(name, ctypes.c_size_t) for name in ("number", "place", "length", "used")]
 
 
+class Field(ctypes.Structure):
+    """A field of a message: its row, whether its data are cut, and where they stand in a slice."""
+
+    _fields_ = [("row", ctypes.c_uint16), ("cut", ctypes.c_bool), ("start", ctypes.c_uint32), ("length", ctypes.c_uint32)]
+
+
 class Refused(Exception):
     """A refusal of document 01: its number and its place."""
 
@@ -32,27 +38,42 @@ class LibraryMissing(Exception):
 def load():
     path = pathlib.Path(os.environ.get("DDOC_SO") or ROOT / "target" / "host" / "libddoc.so")
     try:
-        function = ctypes.CDLL(str(path.resolve())).ddoc_read_symbol
+        library = ctypes.CDLL(str(path.resolve()))
+        library.ddoc_read_symbol.argtypes = [ctypes.c_char_p, ctypes.c_size_t, ctypes.c_void_p, ctypes.c_size_t]
+        library.ddoc_conformity.argtypes = [ctypes.c_uint8, ctypes.c_uint8, ctypes.POINTER(Field), ctypes.c_size_t]
     except (OSError, AttributeError) as fault:
         raise LibraryMissing(f"the library cannot be loaded: {fault}\nBuild it with host/build, or name another in DDOC_SO.") from None
-    function.argtypes = [ctypes.c_char_p, ctypes.c_size_t, ctypes.c_void_p, ctypes.c_size_t]
-    function.restype = Answer
-    return function
+    library.ddoc_read_symbol.restype = Answer
+    library.ddoc_conformity.restype = Answer
+    return library
 
 
-_function = None
+_library = None
+
+
+def loaded():
+    """The library, loaded at the first call."""
+    global _library
+    if _library is None:
+        _library = load()
+    return _library
 
 
 def call(codewords, lent, room):
     """The plain call: lends the first `room` bytes of a copy of `lent`; gives the answer and the whole copy afterwards."""
-    global _function
     if room > len(lent):
         raise ValueError("the room is larger than what is lent")
-    if _function is None:
-        _function = load()
     text = ctypes.create_string_buffer(bytes(lent), max(len(lent), 1))
-    answer = _function(bytes(codewords), len(codewords), text, room)
+    answer = loaded().ddoc_read_symbol(bytes(codewords), len(codewords), text, room)
     return answer, text.raw[: len(lent)]
+
+
+def call_conformity(kind, fields):
+    """The plain call, with the two characters of a type and a list of Field; gives the answer and the list's bytes afterwards."""
+    first, second = kind
+    lent = (Field * len(fields))(*fields)
+    answer = loaded().ddoc_conformity(first, second, lent, len(fields))
+    return answer, bytes(lent)
 
 
 def read_symbol(codewords, room=1000):
@@ -61,3 +82,10 @@ def read_symbol(codewords, room=1000):
     if answer.number != 0:
         raise Refused(answer.number, answer.place)
     return text[: answer.length], answer.used
+
+
+def conformity(kind, fields):
+    """Nothing if the fields conform to the table of the type, given as two bytes. Raises Refused."""
+    answer, _ = call_conformity(kind, fields)
+    if answer.number != 0:
+        raise Refused(answer.number, answer.place)

@@ -2,7 +2,7 @@
 -- directions are one argument, over the function F that is computed in groups.
 -- Assumes nothing.
 use Prim.Native.Nat.{ℕ, zero, suc, _+_, _-_, _*_, _/_, _%_, _≤_, _<_}
-use mathlib.Core.Bool.{Bool, true, false}
+use mathlib.Core.Bool.{true}
 use mathlib.Core.List.{List, [], _∷_, _++_, map}
 use mathlib.Core.Path.{_≡_, refl, sym, ap, _∙_}
 use native.Mathlib.Omega.{arith}
@@ -12,8 +12,8 @@ use borrow.Rule.Slice.PartMut.{putMid}
 use Rattle.refusal.specs.Over.{over}
 use Rattle.refusal.proofs.Binds.{by-test}
 use Rattle.refusal.proofs.Over.{tail-is, over-tail}
-use Rattle.refusal.proofs.Chars.{charsAt, chars-at}
-use Rattle.base32.specs.Base32.{inAlphabet, valueOf, charOf, leading, byte1, byte2, byte3, byte4, byte5, bytes, spare, value2, value4, value5, value7, values, decoded, spareBits, encoded}
+use Rattle.refusal.proofs.Chars.{chars-at}
+use Rattle.base32.specs.Base32.{inAlphabet, valueOf, charOf, leading, byte1, byte2, byte3, byte4, byte5, bytes, value2, value4, value5, value7, values, decoded, encoded}
 use Rattle.base32.proofs.RoundTrip.{length-bytes, length-values}
 
 -- characters that are all of the alphabet

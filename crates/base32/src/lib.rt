@@ -1,9 +1,7 @@
 // Base32 of RFC 4648 without padding: characters to bytes and back, in groups of eight characters and five bytes.
-ghost use mathlib.Core.Bool.{true};
 ghost use mathlib.Core.Path.{_≡_};
-ghost use mathlib.Core.List.{_++_};
 ghost use Prim.Native.Nat.{_+_, _*_, _/_, _≤_, _<_};
-ghost use lib.ListN.{length, take, drop, replicate};
+ghost use lib.ListN.{length, getD, take, replicate};
 ghost use Rattle.refusal.specs.Over.{over};
 ghost use Rattle.base32.specs.Base32.{inAlphabet, valueOf, charOf, leading, decoded, spareBits, encoded};
 
@@ -33,11 +31,13 @@ pub fn count_leading(chars: &[u8]) -> usize
     i
 }
 
-fn value_of(c: u8) -> u8
-    requires { ⌜ inAlphabet c ≡ true ⌝ }
-    ensures is { λ r. ⌜ r ≡ valueOf c ⌝ }
+// The value of a character, where all are of the alphabet.
+fn value_at(chars: &[u8], i: usize) -> u8
+    requires { ⌜ (i < length (now chars)) × (leading (now chars) ≡ length (now chars)) ⌝ }
+    ensures is { λ r. ⌜ r ≡ valueOf (getD (now (chars .entry)) i 0) ⌝ }
     ensures small { λ r. ⌜ r < 32 ⌝ }
 {
+    let c = chars[i];
     if c < 65 { c - 24 } else { c - 65 }
 }
 
@@ -53,14 +53,14 @@ fn read_group(chars: &[u8], out: &mut [u8])
     requires { ⌜ (8 ≤ length (now chars)) × (leading (now chars) ≡ length (now chars)) × (5 ≤ length (now out)) ⌝ }
     ensures { λ _. ⌜ now (out .exit) ≡ over (decoded (take 8 (now (chars .entry)))) (now (out .entry)) ⌝ }
 {
-    let a = value_of(chars[0]);
-    let b = value_of(chars[1]);
-    let c = value_of(chars[2]);
-    let d = value_of(chars[3]);
-    let e = value_of(chars[4]);
-    let f = value_of(chars[5]);
-    let g = value_of(chars[6]);
-    let h = value_of(chars[7]);
+    let a = value_at(chars, 0);
+    let b = value_at(chars, 1);
+    let c = value_at(chars, 2);
+    let d = value_at(chars, 3);
+    let e = value_at(chars, 4);
+    let f = value_at(chars, 5);
+    let g = value_at(chars, 6);
+    let h = value_at(chars, 7);
     out[0] = 8 * a + b / 4;
     out[1] = 64 * (b % 4) + 2 * c + d / 16;
     out[2] = 16 * (d % 16) + e / 2;
@@ -117,7 +117,7 @@ pub fn spare_bits(chars: &[u8]) -> u8
     if r == 0 {
         return 0;
     }
-    let v = value_of(chars[n - 1]);
+    let v = value_at(chars, n - 1);
     match r {
         2 => v % 4,
         4 => v % 16,

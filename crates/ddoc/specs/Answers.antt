@@ -7,6 +7,8 @@ use Rattle.codeword.specs.Reading.{Reading, good, refused}
 use Rattle.symbol_writer.specs.declared.SymbolWritten.{SymbolWritten}
 use Rattle.symbol_writer.specs.declared.SymbolWritten.the-variants.{Written, Refused}
 use Rattle.symbol_writer.specs.Promise.{Promised}
+use Rattle.conformity.specs.declared.Conformity.{Conformity}
+use Rattle.conformity.specs.declared.Conformity.the-variants.{Conforms, Refused as NotConforming}
 use Rattle.ddoc.specs.declared.Answer.{Answer}
 
 abbrev pub readingAnswer : Reading → Answer
@@ -22,3 +24,7 @@ pub record Writes (t : List ℕ) (largest work : ℕ) (old new : List ℕ) (r : 
   pub answer : SymbolWritten
   pub numbers : r ≡ writingAnswer answer
   pub promised : Promised t largest work old new answer
+
+abbrev pub conformityAnswer : Conformity → Answer
+conformityAnswer Conforms = record { number = 0; place = 0; length = 0; used = 0 }
+conformityAnswer (NotConforming r) = record { number = r .number; place = r .place; length = 0; used = 0 }

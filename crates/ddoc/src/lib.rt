@@ -4,7 +4,11 @@ ghost use lib.ListN.{length};
 ghost use Rattle.codeword.specs.Reading.{readSymbol};
 ghost use Rattle.symbol_reader.specs.Answers.{lentAfter};
 ghost use Rattle.symbol_writer.specs.Promise.{workLeft};
-ghost use Rattle.ddoc.specs.Answers.{readingAnswer, Writes};
+ghost use Rattle.conformity.specs.Conformity.{conforms};
+ghost use Rattle.conformity.specs.Noted.{answered};
+ghost use Rattle.ddoc.specs.Answers.{readingAnswer, Writes, conformityAnswer};
+use conformity::Conformity;
+use dictionary::Field;
 use symbol_reader::SymbolRead;
 use symbol_writer::SymbolWritten;
 
@@ -65,4 +69,31 @@ pub extern "C" fn ddoc_write_symbol(
             used: 0,
         },
     }
+}
+
+fn conformity_numbers(c: Conformity) -> Answer
+    ensures { λ r. ⌜ r ≡ conformityAnswer c ⌝ }
+{
+    match c {
+        Conformity::Conforms => Answer {
+            number: 0,
+            place: 0,
+            length: 0,
+            used: 0,
+        },
+        Conformity::Refused(r) => Answer {
+            number: r.number as usize,
+            place: r.place,
+            length: 0,
+            used: 0,
+        },
+    }
+}
+
+#[no_mangle]
+pub extern "C" fn ddoc_conformity(type0: u8, type1: u8, fields: &[Field]) -> Answer
+    ensures { λ r. ⌜ r ≡ conformityAnswer (answered (conforms type0 type1 (now (fields .entry)))) ⌝ }
+{
+    let c = records::conforms_list(type0, type1, fields);
+    conformity_numbers(c)
 }

@@ -10,7 +10,7 @@ use lib.Dec.{leb, eqb}
 use lib.ListN.{length, take, drop, length-append, length-drop}
 use lib.Seq.{length-take-le}
 use borrow.Author.Tests.{leb-true, le-leb, ne-eqb, not-true}
-use Rattle.refusal.specs.Answers.{Answer, good, refused}
+use Rattle.refusal.specs.Answers.{good}
 use Rattle.refusal.specs.Numbers.{no-row, identifier-repeated, fixed-cut, data-too-long, wrong-character, data-too-short}
 use Rattle.refusal.proofs.Binds.{never, same-good, by-bind, by-check, by-and, clash}
 use Rattle.dictionary.specs.Dictionary.{Dictionary, allowed, fixed, full, rowAt, distinct, plain}

@@ -2,7 +2,7 @@
 -- for any stretch of any slice: what was read of one field is what the writer asks of it, and its characters stand where they stood.
 -- Assumes nothing.
 use Prim.Native.Nat.{ℕ, zero, suc, _+_, _≤_}
-use mathlib.Core.Bool.{Bool, true, false, not, _&&_}
+use mathlib.Core.Bool.{true, false, not, _&&_}
 use mathlib.Core.List.{List, [], _∷_, _++_, append-assoc, append-nil}
 use mathlib.Core.Path.{_≡_, refl, ap, sym, _∙_}
 use native.Mathlib.Omega.{arith}
@@ -10,7 +10,7 @@ use lib.Dec.{leb, eqb}
 use lib.ListN.{length, take, drop, length-append}
 use lib.Seq.{take-at, drop-at}
 use borrow.Author.Tests.{leb-true, le-leb, eqb-true, not-true}
-use Rattle.refusal.specs.Answers.{Answer, good, refused}
+use Rattle.refusal.specs.Answers.{good}
 use Rattle.refusal.specs.Numbers.{identifier-repeated, data-too-short}
 use Rattle.refusal.proofs.Binds.{never, same-good, by-test, by-bind, by-check, by-and}
 use Rattle.dictionary.specs.Dictionary.{Dictionary, Numbered, fixed, find, rowAt}

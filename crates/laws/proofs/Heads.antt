@@ -10,14 +10,14 @@ use lib.Dec.{leb, ltb, eqb}
 use lib.ListN.{length, getD, take, drop, length-append, length-drop, List·getD-append}
 use lib.Seq.{drop-cons, take-at, drop-at, drop-drop}
 use borrow.Author.Tests.{leb-true, le-leb, lt-leb, ltb-true, ltb-false, lt-ltb, le-ltb, eqb-true}
-use Rattle.refusal.specs.Answers.{Answer, good, refused}
+use Rattle.refusal.specs.Answers.{good}
 use Rattle.refusal.specs.Numbers.{header-too-short, not-dc, wrong-header-character, wrong-perimeter}
 use Rattle.refusal.proofs.Binds.{never, same-good, by-test, by-bind, by-check, by-seq, by-and, by-or}
 use Rattle.dictionary.specs.Dictionary.{between, upper, digit}
 use Rattle.text.specs.declared.Version.{Version}
 use Rattle.text.specs.declared.Version.the-variants.{V02, V03, V04}
 use Rattle.text.specs.declared.Header.{Header}
-use Rattle.text.specs.Header.{size, letter, hex, versionOf, part, hexValue, hexChar, number, digits, perimeter01, perimeterIn, countryIn, versionChars, parts, Headed, readHeader, perimeterOf, countryOf, headerChars, writeHeader, Shaped, kept, keptPerimeter, keptCountry}
+use Rattle.text.specs.Header.{size, letter, hex, versionOf, part, hexValue, hexChar, number, digits, perimeter01, perimeterIn, countryIn, versionChars, parts, Headed, known, readHeader, perimeterOf, countryOf, headerChars, writeHeader, Shaped, kept, keptPerimeter, keptCountry}
 
 -- the characters of a part stand in the text
 pub part-is : (fs : List (ℕ → Bool)) (p : ℕ) (t x : List ℕ) → part fs p t ≡ good x → p + length fs ≤ length t → (drop p t ≡ x ++ drop (p + length fs) t) × (length x ≡ length fs)
@@ -342,7 +342,7 @@ header-back h t s e =
 
 -- READING A HEADER: what was read is written as it stood
 pub header-read : (t : List ℕ) (x : Headed) → readHeader t ≡ good x → HeaderCovered (x .version) t (x .header)
-unfolding readHeader
+unfolding readHeader known
 header-read t x e =
     by-check (leb 22 (length t)) header-too-short (length t) _ e λ l e.
     by-check (eqb (getD t 0 0) 68 && eqb (getD t 1 0) 67) not-dc 0 _ e λ dc e.
@@ -363,7 +363,7 @@ version-at V04 h l = refl
 
 -- and what was written is read as it was, whatever stands behind it
 pub header-again : (h : Header) (head rest : List ℕ) → (b : HeaderBack h head) → readHeader (head ++ rest) ≡ good (record { version = b .version; header = kept (b .version) h })
-unfolding readHeader
+unfolding readHeader known
 header-again h head rest b =
     rw (
       le-leb 22 (length (head ++ rest)) (omega (arith, least-size v, len)),

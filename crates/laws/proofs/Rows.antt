@@ -9,7 +9,7 @@ use native.Mathlib.Omega.{arith}
 use lib.Dec.{leb, eqb}
 use borrow.Author.Tests.{leb-true, eqb-true, eq-eqb, ne-eqb, not-true}
 use Rattle.refusal.specs.Pick.{pick}
-use Rattle.refusal.specs.Answers.{Answer, good, refused}
+use Rattle.refusal.specs.Answers.{good}
 use Rattle.refusal.proofs.Binds.{never, same-good, by-and, by-or, or-right, clash}
 use Rattle.dictionary.specs.Dictionary.{Dictionary, upper, inKind, isLimit, allowed, fixed, find, rowAt, listed, distinct, plain}
 use Rattle.dictionary.specs.declared.Kind.{Kind}

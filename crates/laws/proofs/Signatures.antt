@@ -2,14 +2,14 @@
 -- bytes, and the rest is Base32's own round trip.
 -- Assumes nothing.
 use Prim.Native.Nat.{ℕ, suc, _+_, _*_, _/_, _%_}
-use mathlib.Core.Bool.{Bool, true, false, _||_}
+use mathlib.Core.Bool.{true}
 use mathlib.Core.List.{List, [], _∷_, map}
 use mathlib.Core.Path.{_≡_, refl, ap, sym, _∙_}
 use native.Mathlib.Omega.{arith}
 use lib.Dec.{eqb}
 use lib.ListN.{length, length-map}
 use borrow.Author.Tests.{eqb-true}
-use Rattle.refusal.specs.Answers.{Answer, good, refused}
+use Rattle.refusal.specs.Answers.{good}
 use Rattle.refusal.specs.Numbers.{signature-length, spare-bits}
 use Rattle.refusal.proofs.Binds.{same-good, by-check, by-seq, by-or}
 use Rattle.base32.specs.Base32.{inAlphabet, valueOf, charOf, values, spareBits}

@@ -2,9 +2,9 @@
 -- 31 and its signature; a written text holds no 31 before the mark, so it is cut where it was joined.
 -- Assumes nothing.
 use Prim.Native.Nat.{ℕ, suc, _+_, _≤_}
-use mathlib.Core.Bool.{Bool, true, false, _&&_}
+use mathlib.Core.Bool.{Bool, true, false}
 use mathlib.Core.List.{List, [], _∷_, _++_}
-use mathlib.Core.Path.{_≡_, refl, ap, sym, subst, _∙_}
+use mathlib.Core.Path.{_≡_, refl, ap, sym, _∙_}
 use native.Mathlib.Omega.{arith}
 use lib.Dec.{leb, eqb}
 use lib.ListN.{length, getD, drop, length-append}
@@ -23,12 +23,12 @@ use Rattle.text.specs.declared.Version.{Version}
 use Rattle.text.specs.declared.Version.the-variants.{V02, V03, V04}
 use Rattle.text.specs.declared.Header.{Header}
 use Rattle.text.specs.Zone.{zone}
-use Rattle.text.specs.Header.{size, versionOf, Headed, readHeader, headerChars, writeHeader, Shaped, kept, keptBy, theParts}
+use Rattle.text.specs.Header.{size, versionOf, readHeader, headerChars, writeHeader, Shaped, kept, keptBy, theParts}
 use Rattle.text.specs.Signature.{readSignature, writeSignature}
 use Rattle.text.specs.Text.{Message, Halves, further, atMark, Reading, reading, readText, inTurn, ending, dataOf, writeField, writeZone, writing, writeText, Admissible, SameMessage}
 use Rattle.laws.proofs.Rows.{row-plain, allowed-plain}
 use Rattle.laws.proofs.Back.{Admitted, admitted, ReadsBack, zone-back}
-use Rattle.laws.proofs.Covers.{Covered, covers}
+use Rattle.laws.proofs.Covers.{covers}
 use Rattle.laws.proofs.Heads.{header-read, HeaderBack, header-back, header-again}
 use Rattle.laws.proofs.Signatures.{signature-covers, signature-back}
 

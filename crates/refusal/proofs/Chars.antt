@@ -1,16 +1,12 @@
--- Characters of a list taken one by one.
+-- Characters of a list taken one by one are a stretch of it. By induction on their number.
 -- Assumes nothing.
 use Prim.Native.Nat.{ℕ, zero, suc, _+_, _≤_}
-use mathlib.Core.List.{List, [], _∷_}
+use mathlib.Core.List.{List, _∷_}
 use mathlib.Core.Path.{_≡_, refl, ap, _∙_}
 use native.Mathlib.Omega.{arith}
 use lib.ListN.{length, take, drop, getD}
 use lib.Seq.{drop-cons}
-
--- the n characters from the place p on
-abbrev pub charsAt : (n p : ℕ) → List ℕ → List ℕ
-charsAt zero p l = []
-charsAt (suc n) p l = getD l p 0 ∷ charsAt n (suc p) l
+use Rattle.refusal.specs.Chars.{charsAt}
 
 pub chars-at : (n p : ℕ) (l : List ℕ) → p + n ≤ length l → take n (drop p l) ≡ charsAt n p l
 chars-at zero p l h = refl

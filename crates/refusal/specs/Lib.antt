@@ -3,3 +3,4 @@ pub mod Limits
 pub mod Pick
 pub mod Answers
 pub mod Over
+pub mod Chars

@@ -95,7 +95,14 @@ pub record Headed : Type 0 where
   pub version : Version
   pub header : Header
 
--- READING A HEADER: 10 below 22 characters, 11, 12, 10 for the version's length, then its parts
+-- of a known version: 10 for its length, then its parts
+unfoldable pub known : Version → (t : List ℕ) → Answer Headed
+known v t = do
+  check (leb (size v) (length t)) header-too-short (length t)
+  header ← parts v t
+  good (record { version = v; header = header })
+
+-- READING A HEADER: 10 below 22 characters, 11, 12, then by version
 unfoldable pub readHeader : (t : List ℕ) → Answer Headed
 readHeader t = do
   check (leb 22 (length t)) header-too-short (length t)

@@ -3,3 +3,4 @@ pub mod Zone
 pub mod Signature
 pub mod Text
 pub mod Samples
+pub mod Code

@@ -1,6 +1,6 @@
 -- The samples of document 01 for zones and for the header, computed over the definitions.
 use Prim.Native.Nat.{ℕ, zero, suc, _+_, _*_}
-use mathlib.Core.Bool.{Bool, true, false}
+use mathlib.Core.Bool.{Bool, false}
 use mathlib.Core.List.{List, [], _∷_, _++_, map}
 use mathlib.Core.Path.{_≡_, refl}
 use lib.ListN.{length}
@@ -13,7 +13,7 @@ use Rattle.dictionary.specs.declared.Limit.the-variants.{UpTo}
 use Rattle.dictionary.specs.declared.Field.{Field}
 use Rattle.text.specs.declared.Version.the-variants.{V02}
 use Rattle.text.specs.Zone.{does, readData, taken, zone}
-use Rattle.text.specs.Header.{part, number, parts, readHeader}
+use Rattle.text.specs.Header.{part, number, parts, known, readHeader}
 
 -- 6Q, 6W, 6X, 6Y, 6Z
 abbrev pub five : Dictionary
@@ -57,7 +57,7 @@ samples = refl
 -- THE HEADER DC02FR011204103D103E01: days 4157 and 4158, type 01
 pub header : readHeader (68 ∷ 67 ∷ 48 ∷ 50 ∷ 70 ∷ 82 ∷ 48 ∷ 49 ∷ 49 ∷ 50 ∷ 48 ∷ 52 ∷ 49 ∷ 48 ∷ 51 ∷ 68 ∷ 49 ∷ 48 ∷ 51 ∷ 69 ∷ 48 ∷ 49 ∷ [])
     ≡ good (record { version = V02; header = record { version = 48 ∷ 50 ∷ []; authority = 70 ∷ 82 ∷ 48 ∷ 49 ∷ []; certificate = 49 ∷ 50 ∷ 48 ∷ 52 ∷ []; issue = 4157; signing = 4158; doctype = 48 ∷ 49 ∷ []; perimeter = 0 ∷ 0 ∷ []; country = 0 ∷ 0 ∷ [] } })
-unfolding readHeader parts part number
+unfolding readHeader known parts part number
 header = refl
 
 -- 66 rows of one digit, with the identifiers (33, 32) to (98, 32), and a zone with the first n of them

@@ -5,7 +5,7 @@ use mathlib.Core.List.{List, [], _∷_}
 use lib.Dec.{eqb}
 use lib.ListN.{length}
 use Rattle.refusal.specs.Pick.{pick}
-use Rattle.refusal.specs.Answers.{Answer, good, refused, _>>=_, _>>_, check}
+use Rattle.refusal.specs.Answers.{Answer, good, _>>=_, _>>_, check}
 use Rattle.refusal.specs.Numbers.{signature-length, signature-character, spare-bits, annex}
 use Rattle.base32.specs.Base32.{inAlphabet, decoded, spareBits, encoded}
 use Rattle.text.specs.declared.Version.{Version}

@@ -4,7 +4,7 @@ use mathlib.Core.Bool.{Bool, true, false, not, _&&_}
 use mathlib.Core.List.{List, [], _∷_, _++_}
 use mathlib.Core.Path.{_≡_}
 use lib.Dec.{leb, eqb}
-use lib.ListN.{length, getD, take, drop}
+use lib.ListN.{length, take, drop}
 use Rattle.refusal.specs.Pick.{pick}
 use Rattle.refusal.specs.Answers.{Answer, good, refused, _>>=_, _>>_, check}
 use Rattle.refusal.specs.Numbers.{text-too-long, lent-too-short, no-mark, wrong-character, data-too-short, identifier-repeated, data-too-long, fixed-cut, too-many-fields, no-row}
@@ -16,7 +16,7 @@ use Rattle.dictionary.specs.declared.Row.{Row}
 use Rattle.dictionary.specs.declared.Field.{Field}
 use Rattle.text.specs.declared.Header.{Header}
 use Rattle.text.specs.Zone.{taken, zone}
-use Rattle.text.specs.Header.{Headed, size, readHeader, writeHeader, theParts}
+use Rattle.text.specs.Header.{size, readHeader, writeHeader, theParts}
 use Rattle.text.specs.Signature.{readSignature, writeSignature}
 
 -- a message: its records point into the slice that stands beside it

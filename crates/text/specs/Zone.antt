@@ -7,7 +7,7 @@ use lib.ListN.{length}
 use Rattle.refusal.specs.Pick.{pick}
 use Rattle.refusal.specs.Answers.{Answer, good, refused, _>>=_, _>>_, check}
 use Rattle.refusal.specs.Numbers.{zone-ends-inside, wrong-character, data-too-short, identifier-repeated, too-many-fields}
-use Rattle.dictionary.specs.Dictionary.{Dictionary, Numbered, allowed, fixed, full, find}
+use Rattle.dictionary.specs.Dictionary.{Dictionary, allowed, fixed, full, find}
 use Rattle.dictionary.specs.declared.Row.{Row}
 use Rattle.dictionary.specs.declared.Field.{Field}
 use Rattle.text.specs.declared.Does.{Does}

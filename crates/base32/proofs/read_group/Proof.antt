@@ -1,4 +1,4 @@
--- `read_group` meets its contract: each character is of the alphabet, and the five stores are the group's bytes. Assumes nothing.
+-- `read_group` meets its contract: the five stores are the group's bytes. Assumes nothing.
 use mathlib.Core.List.{[], _∷_}
 use mathlib.Core.Path.{ap, _∙_}
 use native.Mathlib.Omega.{arith}
@@ -6,58 +6,34 @@ use lib.ListN.{length-set}
 use lib.Seq.{sets-eq}
 use Rattle.refusal.specs.Over.{over}
 use Rattle.base32.specs.Base32.{byte1, byte2, byte3, byte4, byte5}
-use Rattle.base32.proofs.Groups.{all-in, eight-chars}
+use Rattle.base32.proofs.Groups.{eight-chars}
 use borrow.Author.Needs.{needs}
 use Rattle.base32.proofs.read_group.Statement.{statement}
 use Rattle.base32.proofs.read_group.Tie as tie
 
-shared-slice-read-value-of : tie.Need-shared-slice-read-value-of
-shared-slice-read-value-of c = search needs
+value-at-requires : tie.Need-value-at-requires
+value-at-requires c κs = search needs
 
-value-of-requires : tie.Need-value-of-requires
-value-of-requires c κs = all-in (c .before .before .before .args .chars .now) (c .before .before .before .pre .1) 0 (omega (arith, c .before .before .before .pre .0))
+value-at-requires-2 : tie.Need-value-at-requires-2
+value-at-requires-2 c κs = search needs
 
-shared-slice-read-value-of-2 : tie.Need-shared-slice-read-value-of-2
-shared-slice-read-value-of-2 c = search needs
+value-at-requires-3 : tie.Need-value-at-requires-3
+value-at-requires-3 c κs = search needs
 
-value-of-requires-2 : tie.Need-value-of-requires-2
-value-of-requires-2 c κs = all-in (c .before .before .before .before .before .args .chars .now) (c .before .before .before .before .before .pre .1) 1 (omega (arith, c .before .before .before .before .before .pre .0))
+value-at-requires-4 : tie.Need-value-at-requires-4
+value-at-requires-4 c κs = search needs
 
-shared-slice-read-value-of-3 : tie.Need-shared-slice-read-value-of-3
-shared-slice-read-value-of-3 c = search needs
+value-at-requires-5 : tie.Need-value-at-requires-5
+value-at-requires-5 c κs = search needs
 
-value-of-requires-3 : tie.Need-value-of-requires-3
-value-of-requires-3 c κs = all-in (c .before .before .before .before .before .before .before .args .chars .now) (c .before .before .before .before .before .before .before .pre .1) 2 (omega (arith, c .before .before .before .before .before .before .before .pre .0))
+value-at-requires-6 : tie.Need-value-at-requires-6
+value-at-requires-6 c κs = search needs
 
-shared-slice-read-value-of-4 : tie.Need-shared-slice-read-value-of-4
-shared-slice-read-value-of-4 c = search needs
+value-at-requires-7 : tie.Need-value-at-requires-7
+value-at-requires-7 c κs = search needs
 
-value-of-requires-4 : tie.Need-value-of-requires-4
-value-of-requires-4 c κs = all-in (c .before .before .before .before .before .before .before .before .before .args .chars .now) (c .before .before .before .before .before .before .before .before .before .pre .1) 3 (omega (arith, c .before .before .before .before .before .before .before .before .before .pre .0))
-
-shared-slice-read-value-of-5 : tie.Need-shared-slice-read-value-of-5
-shared-slice-read-value-of-5 c = search needs
-
-value-of-requires-5 : tie.Need-value-of-requires-5
-value-of-requires-5 c κs = all-in (c .before .before .before .before .before .before .before .before .before .before .before .args .chars .now) (c .before .before .before .before .before .before .before .before .before .before .before .pre .1) 4 (omega (arith, c .before .before .before .before .before .before .before .before .before .before .before .pre .0))
-
-shared-slice-read-value-of-6 : tie.Need-shared-slice-read-value-of-6
-shared-slice-read-value-of-6 c = search needs
-
-value-of-requires-6 : tie.Need-value-of-requires-6
-value-of-requires-6 c κs = all-in (c .before .before .before .before .before .before .before .before .before .before .before .before .before .args .chars .now) (c .before .before .before .before .before .before .before .before .before .before .before .before .before .pre .1) 5 (omega (arith, c .before .before .before .before .before .before .before .before .before .before .before .before .before .pre .0))
-
-shared-slice-read-value-of-7 : tie.Need-shared-slice-read-value-of-7
-shared-slice-read-value-of-7 c = search needs
-
-value-of-requires-7 : tie.Need-value-of-requires-7
-value-of-requires-7 c κs = all-in (c .before .before .before .before .before .before .before .before .before .before .before .before .before .before .before .args .chars .now) (c .before .before .before .before .before .before .before .before .before .before .before .before .before .before .before .pre .1) 6 (omega (arith, c .before .before .before .before .before .before .before .before .before .before .before .before .before .before .before .pre .0))
-
-shared-slice-read-value-of-8 : tie.Need-shared-slice-read-value-of-8
-shared-slice-read-value-of-8 c = search needs
-
-value-of-requires-8 : tie.Need-value-of-requires-8
-value-of-requires-8 c κs = all-in (c .before .before .before .before .before .before .before .before .before .before .before .before .before .before .before .before .before .args .chars .now) (c .before .before .before .before .before .before .before .before .before .before .before .before .before .before .before .before .before .pre .1) 7 (omega (arith, c .before .before .before .before .before .before .before .before .before .before .before .before .before .before .before .before .before .pre .0))
+value-at-requires-8 : tie.Need-value-at-requires-8
+value-at-requires-8 c κs = search needs
 
 mul-out : tie.Need-mul-out
 mul-out c = search needs
@@ -81,7 +57,7 @@ add-out-3 : tie.Need-add-out-3
 add-out-3 c = search needs
 
 slice-write-out-2 : tie.Need-slice-write-out-2
-slice-write-out-2 c = simp length-set (omega (arith, c .before .before .before .before .before .before .before .before .before .before .before .before .before .before .before .before .before .before .pre .2))
+slice-write-out-2 c = simp length-set (omega (arith, c .before .before .before .before .before .before .before .before .before .before .pre .2))
 
 mul-out-4 : tie.Need-mul-out-4
 mul-out-4 c = search needs
@@ -90,7 +66,7 @@ add-out-4 : tie.Need-add-out-4
 add-out-4 c = search needs
 
 slice-write-out-3 : tie.Need-slice-write-out-3
-slice-write-out-3 c = simp length-set (omega (arith, c .before .before .before .before .before .before .before .before .before .before .before .before .before .before .before .before .before .before .pre .2))
+slice-write-out-3 c = simp length-set (omega (arith, c .before .before .before .before .before .before .before .before .before .before .pre .2))
 
 mul-out-5 : tie.Need-mul-out-5
 mul-out-5 c = search needs
@@ -105,7 +81,7 @@ add-out-6 : tie.Need-add-out-6
 add-out-6 c = search needs
 
 slice-write-out-4 : tie.Need-slice-write-out-4
-slice-write-out-4 c = simp length-set (omega (arith, c .before .before .before .before .before .before .before .before .before .before .before .before .before .before .before .before .before .before .pre .2))
+slice-write-out-4 c = simp length-set (omega (arith, c .before .before .before .before .before .before .before .before .before .before .pre .2))
 
 mul-out-7 : tie.Need-mul-out-7
 mul-out-7 c = search needs
@@ -114,22 +90,22 @@ add-out-7 : tie.Need-add-out-7
 add-out-7 c = search needs
 
 slice-write-out-5 : tie.Need-slice-write-out-5
-slice-write-out-5 c = simp length-set (omega (arith, c .before .before .before .before .before .before .before .before .before .before .before .before .before .before .before .before .before .before .pre .2))
+slice-write-out-5 c = simp length-set (omega (arith, c .before .before .before .before .before .before .before .before .before .before .pre .2))
 
 same-length : tie.Need-same-length
-same-length c = search needs
+same-length c = simp length-set
 
 returns : tie.Need-returns
 returns c =
-    let s = c .before .before .before .before .before .before .before .before .before .before .before .before .before .before .before .before .before .before in
-    let v1 = c .before .before .before .before .before .before .before .before .before .before .before .before .before .before .value-of in
-    let v2 = c .before .before .before .before .before .before .before .before .before .before .before .before .value-of2 in
-    let v3 = c .before .before .before .before .before .before .before .before .before .before .value-of3 in
-    let v4 = c .before .before .before .before .before .before .before .before .value-of4 in
-    let v5 = c .before .before .before .before .before .before .value-of5 in
-    let v6 = c .before .before .before .before .value-of6 in
-    let v7 = c .before .before .value-of7 in
-    let v8 = c .value-of8 in
+    let s = c .before .before .before .before .before .before .before .before .before .before in
+    let v1 = c .before .before .before .before .before .before .before .value-at in
+    let v2 = c .before .before .before .before .before .before .value-at2 in
+    let v3 = c .before .before .before .before .before .value-at3 in
+    let v4 = c .before .before .before .before .value-at4 in
+    let v5 = c .before .before .before .value-at5 in
+    let v6 = c .before .before .value-at6 in
+    let v7 = c .before .value-at7 in
+    let v8 = c .value-at8 in
     sets-eq (byte1 (v1 .result) (v2 .result) ∷ byte2 (v2 .result) (v3 .result) (v4 .result) ∷ byte3 (v4 .result) (v5 .result) ∷ byte4 (v5 .result) (v6 .result) (v7 .result) ∷ byte5 (v7 .result) (v8 .result) ∷ []) (s .args .out .now) 0 (s .pre .2)
     ∙ ap (λ x. over x (s .args .out .now))
     (eight-chars (s .args .chars .now) (v1 .result) (v2 .result) (v3 .result) (v4 .result) (v5 .result) (v6 .result) (v7 .result) (v8 .result) (s .pre .0)
@@ -139,22 +115,14 @@ pub read-group-spec : {M : Type 1} → statement M
 read-group-spec =
     tie.close
     (tie.spec
-    shared-slice-read-value-of
-    value-of-requires
-    shared-slice-read-value-of-2
-    value-of-requires-2
-    shared-slice-read-value-of-3
-    value-of-requires-3
-    shared-slice-read-value-of-4
-    value-of-requires-4
-    shared-slice-read-value-of-5
-    value-of-requires-5
-    shared-slice-read-value-of-6
-    value-of-requires-6
-    shared-slice-read-value-of-7
-    value-of-requires-7
-    shared-slice-read-value-of-8
-    value-of-requires-8
+    value-at-requires
+    value-at-requires-2
+    value-at-requires-3
+    value-at-requires-4
+    value-at-requires-5
+    value-at-requires-6
+    value-at-requires-7
+    value-at-requires-8
     mul-out
     add-out
     slice-write-out

@@ -1,6 +1,6 @@
 -- `read_rest` meets its contract: filled up with A the characters are a group, whose whole bytes are theirs. Assumes nothing.
-use Prim.Native.Nat.{_+_, _*_, _/_}
-use mathlib.Core.Path.{_≡_, sym, ap, _∙_}
+use Prim.Native.Nat.{_*_, _/_}
+use mathlib.Core.Path.{ap, _∙_}
 use native.Mathlib.Omega.{arith}
 use lib.ListN.{length, replicate}
 use Rattle.base32.specs.Base32.{decoded}

@@ -1,6 +1,6 @@
 -- `write_rest` meets its contract: filled up with zeros the bytes are a group, whose first characters are theirs. Assumes nothing.
 use Prim.Native.Nat.{_+_, _*_, _/_}
-use mathlib.Core.Path.{_≡_, sym, ap, _∙_}
+use mathlib.Core.Path.{ap, _∙_}
 use native.Mathlib.Omega.{arith}
 use lib.ListN.{length, replicate}
 use Rattle.base32.specs.Base32.{encoded}

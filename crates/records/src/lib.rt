@@ -1,0 +1,101 @@
+// The fields of a message in a list that the caller lends: stored into it, looked at in it, taken out of it.
+// Each function here is thin: what is done with a record is a function by value.
+use conformity::Conformity;
+use dictionary::Field;
+use dictionary::Fields;
+ghost use mathlib.Core.Path.{_≡_};
+ghost use Prim.Native.Nat.{_<_, _≤_};
+ghost use Prim.Native.Nat.{min};
+ghost use lib.ListN.{length, getD, set};
+ghost use Rattle.conformity.specs.Conformity.{conforms};
+ghost use Rattle.conformity.specs.Noted.{answered};
+ghost use Rattle.records.specs.Lists.{noField, noFields, pasted, byValue, withRecord};
+
+fn record_at(f: Fields, i: usize) -> Field
+    requires { ⌜ i < 64 ⌝ }
+    ensures { λ r. ⌜ r ≡ getD (f .list) i noField ⌝ }
+{
+    let x = f.list[i];
+    x
+}
+
+// "a thin function stores each field record into a lent slice of structs"
+pub fn put_all(list: &mut [Field], f: Fields)
+    requires { ⌜ (f .count ≤ 64) × (f .count ≤ length (now list)) ⌝ }
+    ensures { λ _. ⌜ now (list .exit) ≡ pasted (f .list) (now (list .entry)) (f .count) ⌝ }
+{
+    let n = f.count;
+    let mut i = 0;
+    while i < n {
+        let x = record_at(f, i);
+        list[i] = x;
+        i += 1;
+    }
+}
+
+// Conformity of a list of any length, record by record.
+pub fn conforms_list(type0: u8, type1: u8, list: &[Field]) -> Conformity
+    ensures { λ r. ⌜ r ≡ answered (conforms type0 type1 (now (list .entry))) ⌝ }
+{
+    let n = list.len();
+    let mut s = conformity::begin(type0, type1);
+    let mut i = 0;
+    while i < n {
+        let x = list[i];
+        s = conformity::note(s, i, x);
+        i += 1;
+    }
+    conformity::decide(s)
+}
+
+// How many records of a list a message can hold.
+fn at_most_64(n: usize) -> usize
+    ensures { λ r. ⌜ r ≡ min n 64 ⌝ }
+{
+    if n < 64 {
+        return n;
+    }
+    64
+}
+
+// Fields of zeros, counted as n.
+fn no_fields(n: usize) -> Fields
+    ensures { λ r. ⌜ r ≡ noFields n ⌝ }
+{
+    let none = Field {
+        row: 0,
+        cut: false,
+        start: 0,
+        length: 0,
+    };
+    Fields {
+        list: [none; 64],
+        count: n,
+    }
+}
+
+// The fields with x at i.
+fn with_record(f: Fields, i: usize, x: Field) -> Fields
+    requires { ⌜ i < 64 ⌝ }
+    ensures { λ r. ⌜ r ≡ withRecord f i x ⌝ }
+{
+    let mut next = f;
+    next.list[i] = x;
+    next
+}
+
+// A lent list by value: its first 64 records, and the count of all of them, so that who takes it knows of a 65th.
+pub fn take_fields(list: &[Field]) -> Fields
+    ensures { λ r. ⌜ r ≡ byValue (now (list .entry)) ⌝ }
+{
+    let n = list.len();
+    let end = at_most_64(n);
+    let mut f = no_fields(n);
+    let mut i = 0;
+    while i < end {
+        let x = list[i];
+        f = with_record(f, i, x);
+        i += 1;
+    }
+    f
+}

@@ -1,0 +1,128 @@
+-- The loop over the fields of a zone: the list holds the fields so far and then zeros, the marks are their rows, and reading on behind
+-- them answers what reading the zone does. By one field more.
+-- Assumes nothing.
+use Prim.Native.Nat.{ℕ, zero, suc, _+_, _-_, _≤_, _<_}
+use mathlib.Core.Bool.{Bool, true, false, _||_}
+use mathlib.Core.List.{List, [], _∷_, _++_}
+use mathlib.Core.Path.{_≡_, refl, ap, sym, subst, _∙_}
+use native.Mathlib.Omega.{arith}
+use native.Mathlib.Numerals.{add-one}
+use lib.Dec.{eqb}
+use lib.ListN.{length, getD, drop, set, replicate, length-append, length-drop, length-set, length-replicate, getD-replicate}
+use lib.Seq.{slice, slice-empty, drop-cons, set-append-seam, getD-set-same, getD-set-other, append-snoc}
+use borrow.Author.Tests.{eqb-true, eqb-false, eq-eqb}
+use Rattle.refusal.specs.Answers.{Answer, good, refused, _>>=_}
+use Rattle.refusal.specs.Limits.{most-fields}
+use Rattle.refusal.specs.declared.Refusal.{Refusal}
+use Rattle.dictionary.specs.Dictionary.{Dictionary}
+use Rattle.dictionary.specs.Rows.{rows, rowCount}
+use Rattle.dictionary.specs.declared.Field.{Field}
+use Rattle.dictionary.specs.declared.Fields.{Fields}
+use Rattle.text.specs.Zone.{taken, zone}
+use Rattle.text_reader.specs.Answers.{noField, fieldsOf, zoneAnswer}
+use Rattle.text_reader.specs.Code.{Marks, fieldSays}
+use Rattle.text_reader.specs.declared.FieldRead.{FieldRead}
+use Rattle.text_reader.specs.declared.FieldRead.the-variants.{One, Refused}
+use Rattle.text_reader.specs.declared.Outcome.the-variants.{Accepted}
+use Rattle.text_reader.specs.declared.ZoneRead.{ZoneRead}
+
+-- one field more in the list
+fields-more : (l : List Field) (f : Field) → length l < most-fields → record { list = set (fieldsOf l .list) (length l) f; count = length l + 1 } ≡ fieldsOf (l ++ (f ∷ []))
+fields-more l f h =
+    let z = replicate most-fields noField in
+    let n : length (l ++ (f ∷ [])) ≡ suc (length l) = length-append l (f ∷ []) ∙ add-one (length l) in
+    let k : length l < length z = omega (arith, length-replicate most-fields noField) in
+    let e : set (l ++ drop (length l) z) (length l) f ≡ (l ++ (f ∷ [])) ++ drop (suc (length l)) z
+    = ap (λ (m : List Field). set (l ++ m) (length l) f) (drop-cons z (length l) noField k) ∙ (set-append-seam l (getD z (length l) noField) (drop (suc (length l)) z) f ∙ sym (append-snoc l f (drop (suc (length l)) z))) in
+    rw (add-one (length l), n, e)
+
+-- one row more among the marks
+taken-more : (n : ℕ) (l : List Field) (f : Field) → taken n (l ++ (f ∷ [])) ≡ (taken n l || eqb n (f .row))
+unfolding taken
+taken-more n [] f = go (eqb n (f .row))
+  where
+    go : (b : Bool) → (b || false) ≡ b
+    go true = refl
+    go false = refl
+taken-more n (g ∷ l) f = go (eqb n (g .row)) (taken-more n l f)
+  where
+    go : (b : Bool) → taken n (l ++ (f ∷ [])) ≡ (taken n l || eqb n (f .row)) → (b || taken n (l ++ (f ∷ []))) ≡ ((b || taken n l) || eqb n (f .row))
+    go true e = refl
+    go false e = e
+
+or-true : (b : Bool) → (b || true) ≡ true
+or-true true = refl
+or-true false = refl
+
+or-false : (b : Bool) → (b || false) ≡ b
+or-false true = refl
+or-false false = refl
+
+marks-more : (used : List Bool) (l : List Field) (f : Field) → f .row < length used → Marks used l → Marks (set used (f .row) true) (l ++ (f ∷ []))
+marks-more used l f h m n k = go (eqb n (f .row)) refl
+  where
+    go : (b : Bool) → eqb n (f .row) ≡ b → getD (set used (f .row) true) n false ≡ taken n (l ++ (f ∷ []))
+    go true e =
+        let q : n ≡ f .row = eqb-true n (f .row) e in
+        ap (λ (i : ℕ). getD (set used (f .row) true) i false) q
+        ∙ (getD-set-same used (f .row) true false h ∙ sym (taken-more n l f ∙ (ap (λ (b : Bool). taken n l || b) e ∙ or-true (taken n l))))
+    go false e =
+        getD-set-other used (f .row) n true false (eqb-false n (f .row) e)
+        ∙ (m n k ∙ sym (taken-more n l f ∙ (ap (λ (b : Bool). taken n l || b) e ∙ or-false (taken n l))))
+
+-- the zone's end
+at-end : (d : Dictionary) (m p end : ℕ) (l : List Field) (text : List ℕ) → p ≡ end → zone d m l p (slice p end text) ≡ good l
+unfolding zone
+at-end d zero p end l text e = rw (e, slice-empty end text)
+at-end d (suc m) p end l text e = rw (e, slice-empty end text)
+
+-- what holds at the head of the loop, at the place p
+pub record Filled (text : List ℕ) (start end : ℕ) (used : List Bool) (out : Fields) (p : ℕ) : Type 0 where
+  pub before : List Field
+  pub is : out ≡ fieldsOf before
+  pub few : length before ≤ most-fields
+  pub size : length used ≡ rowCount
+  pub marks : Marks used before
+  pub on : zone rows (most-fields - length before) before p (slice p end text) ≡ zone rows most-fields [] start (slice start end text)
+
+module _ (text : List ℕ) (start end : ℕ) where
+  pub filled-start : Filled text start end (replicate rowCount false) (fieldsOf []) start
+  unfolding taken
+  filled-start = record { before = []; is = refl; few = omega arith; size = length-replicate rowCount false; marks = λ n h. getD-replicate rowCount n false false h; on = refl }
+
+  module _ (used : List Bool) (out : Fields) (p : ℕ) (h : Filled text start end used out p) where
+    pub filled-count : out .count ≡ length (h .before)
+    filled-count = ap (λ (o : Fields). o .count) (h .is)
+
+    pub filled-size : length (out .list) ≡ most-fields
+    filled-size =
+        ap (λ (o : Fields). length (o .list)) (h .is)
+        ∙ (length-append (h .before) (drop (length (h .before)) (replicate most-fields noField))
+        ∙ omega (arith, length-drop (length (h .before)) (replicate most-fields noField), length-replicate most-fields noField, h .few))
+
+    pub filled-end : p ≡ end → record { outcome = Accepted; fields = out } ≡ zoneAnswer (zone rows most-fields [] start (slice start end text))
+    filled-end e =
+        ap (λ (o : Fields). record { outcome = Accepted; fields = o }) (h .is)
+        ∙ ap zoneAnswer (sym (at-end rows (most-fields - length (h .before)) p end (h .before) text e) ∙ h .on)
+
+    module _ (x : FieldRead) (says : (l : List Field) → Marks used l → fieldSays x text end (out .count) l ≡ zone rows (most-fields - out .count) l p (slice p end text)) where
+      told : fieldSays x text end (length (h .before)) (h .before) ≡ zone rows most-fields [] start (slice start end text)
+      told = subst (λ (n : ℕ). fieldSays x text end n (h .before) ≡ zone rows (most-fields - n) (h .before) p (slice p end text)) filled-count (says (h .before) (h .marks)) ∙ h .on
+
+      pub filled-refused : (w : Refusal) → x ≡ Refused w → refused (w .number) (w .place) ≡ zone rows most-fields [] start (slice start end text)
+      filled-refused w e = ap (λ (y : FieldRead). fieldSays y text end (length (h .before)) (h .before)) (sym e) ∙ told
+
+      pub filled-more : (f : Field) (next : ℕ) → x ≡ One f next → f .row < rowCount → out .count < most-fields
+          → Filled text start end (set used (f .row) true) (record { list = set (out .list) (out .count) f; count = out .count + 1 }) next
+      filled-more f next e r c =
+          let l = h .before in
+          let k : length l < most-fields = omega (arith, filled-count) in
+          let n : length (l ++ (f ∷ [])) ≡ suc (length l) = length-append l (f ∷ []) ∙ add-one (length l) in
+          record {
+            before = l ++ (f ∷ []);
+            is = ap (λ (o : Fields). record { list = set (o .list) (o .count) f; count = o .count + 1 }) (h .is) ∙ fields-more l f k;
+            few = omega (arith, n);
+            size = length-set used (f .row) true ∙ h .size;
+            marks = marks-more used l f (omega (arith, h .size)) (h .marks);
+            on = rw n (ap (λ (y : FieldRead). fieldSays y text end (length l) l) (sym e) ∙ told);
+          }
