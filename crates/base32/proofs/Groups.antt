@@ -10,7 +10,7 @@ use lib.ListN.{length, take, drop, getD, replicate, length-append, length-drop, 
 use lib.Seq.{take-at, drop-at, take-add, take-length, take-append-le, drop-drop, length-take-le}
 use borrow.Rule.Slice.PartMut.{putMid}
 use Rattle.refusal.specs.Over.{over}
-use Rattle.refusal.proofs.Binds.{by-test}
+use Rattle.refusal.proofs.Tests.{by-test}
 use Rattle.refusal.proofs.Over.{tail-is, over-tail}
 use Rattle.refusal.proofs.Chars.{chars-at}
 use Rattle.base32.specs.Base32.{inAlphabet, valueOf, charOf, leading, byte1, byte2, byte3, byte4, byte5, bytes, value2, value4, value5, value7, values, decoded, encoded}

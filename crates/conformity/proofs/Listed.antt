@@ -16,7 +16,7 @@ use Rattle.refusal.specs.Answers.{Answer, good, refused, _>>_, check}
 use Rattle.refusal.specs.Numbers.{type-not-covered, identifier-missing, identifier-not-permitted}
 use Rattle.dictionary.specs.declared.Field.{Field}
 use Rattle.dictionary.specs.Rows.{rowCount}
-use Rattle.dictionary.proofs.Bools.{left, right}
+use Rattle.refusal.proofs.Binds.{left, right}
 use Rattle.conformity.specs.declared.Seen.{Seen}
 use Rattle.conformity.specs.Tables.{Exchange, Table, tables}
 use Rattle.conformity.specs.Conformity.{columnOf, tableAt, markOf, mandatory, permitted, present, among, every, replaced, there, complete, allowed, conforms}

@@ -15,7 +15,7 @@ use Rattle.refusal.specs.Answers.{Answer, good, refused, _>>_, check}
 use Rattle.refusal.specs.Numbers.{type-not-covered, identifier-missing, identifier-not-permitted, refusal}
 use Rattle.dictionary.specs.declared.Field.{Field}
 use Rattle.dictionary.specs.Rows.{rowCount}
-use Rattle.dictionary.proofs.Bools.{clash}
+use Rattle.refusal.proofs.Binds.{clash}
 use Rattle.conformity.specs.declared.Conformity.{Conformity}
 use Rattle.conformity.specs.declared.Conformity.the-variants.{Conforms, Refused}
 use Rattle.conformity.specs.declared.Seen.{Seen}

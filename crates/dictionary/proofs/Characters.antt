@@ -10,7 +10,7 @@ use borrow.Author.Tests.{leb-true, eqb-true}
 use Rattle.dictionary.specs.declared.Row.{Row}
 use Rattle.dictionary.specs.declared.Kind.{Kind}
 use Rattle.dictionary.specs.declared.Kind.the-variants.{Numeric, Alphabetic, Alphanumeric}
-use Rattle.dictionary.proofs.Bools.{left}
+use Rattle.refusal.proofs.Binds.{left}
 use Rattle.dictionary.specs.Dictionary.{between, upper, inKind, allowed}
 
 module _ (k : Kind) (b : Bool) (c : ℕ) (e : k ≡ Alphabetic) (u : b ≡ upper c) where

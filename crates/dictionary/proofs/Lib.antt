@@ -1,4 +1,3 @@
-pub mod Bools
 pub mod Rows
 pub mod Flat
 pub mod Characters

@@ -20,7 +20,7 @@ use Rattle.dictionary.specs.declared.RowFound.{RowFound}
 use Rattle.dictionary.specs.declared.RowFound.the-variants.{Is, NoRow}
 use Rattle.dictionary.specs.Dictionary.{Dictionary, Numbered, find, rowAt, listed, distinct, plain}
 use Rattle.dictionary.specs.Rows.{rows, rowCount}
-use Rattle.dictionary.proofs.Bools.{left, right, never, good-one}
+use Rattle.refusal.proofs.Binds.{left, right, not-refused, same-good}
 use Rattle.dictionary.specs.Lookup.{baseOf, digitOf, placeOf, foundSays, rowFoundSays}
 
 pub rows-distinct : distinct rows ≡ true
@@ -123,19 +123,19 @@ chosen a b k p r d x false e h = h e
 -- a row that is found has a number below the count of rows
 pub find-below : (a b k p : ℕ) (d : Dictionary) (x : Numbered) → find a b k p d ≡ good x → x .number < k + length d
 unfolding find
-find-below a b k p [] x e = never (sym e)
+find-below a b k p [] x e = not-refused (sym e)
 find-below a b k p (r ∷ d) x e =
     omega (arith, chosen a b k p r d x (eqb a (r .first) && eqb b (r .second)) e (λ g. find-below a b (suc k) p d x g))
 
 -- the promise of `find_row` has one answer, and that of `row_at`
 pub found-one : (a b : ℕ) (x y : Found) → ((p : ℕ) → foundSays x p ≡ find a b 0 p rows) → ((p : ℕ) → foundSays y p ≡ find a b 0 p rows) → x ≡ y
-found-one a b (At n r) (At m q) h k = let e = good-one (h 0 ∙ sym (k 0)) in ap (λ (z : Numbered). At (z .number) (z .row)) e
-found-one a b (At n r) Unknown h k = never (h 0 ∙ sym (k 0))
-found-one a b Unknown (At m q) h k = never (k 0 ∙ sym (h 0))
+found-one a b (At n r) (At m q) h k = let e = same-good (h 0 ∙ sym (k 0)) in ap (λ (z : Numbered). At (z .number) (z .row)) e
+found-one a b (At n r) Unknown h k = not-refused (h 0 ∙ sym (k 0))
+found-one a b Unknown (At m q) h k = not-refused (k 0 ∙ sym (h 0))
 found-one a b Unknown Unknown h k = refl
 
 pub row-one : (n : ℕ) (x y : RowFound) → ((i : ℕ) → rowFoundSays x i ≡ rowAt rows n i) → ((i : ℕ) → rowFoundSays y i ≡ rowAt rows n i) → x ≡ y
-row-one n (Is r) (Is q) h k = ap Is (good-one (h 0 ∙ sym (k 0)))
-row-one n (Is r) NoRow h k = never (h 0 ∙ sym (k 0))
-row-one n NoRow (Is q) h k = never (k 0 ∙ sym (h 0))
+row-one n (Is r) (Is q) h k = ap Is (same-good (h 0 ∙ sym (k 0)))
+row-one n (Is r) NoRow h k = not-refused (h 0 ∙ sym (k 0))
+row-one n NoRow (Is q) h k = not-refused (k 0 ∙ sym (h 0))
 row-one n NoRow NoRow h k = refl

@@ -12,7 +12,8 @@ use lib.Seq.{take-at, drop-at}
 use borrow.Author.Tests.{leb-true, le-leb, eqb-true, not-true}
 use Rattle.refusal.specs.Answers.{good}
 use Rattle.refusal.specs.Numbers.{identifier-repeated, data-too-short}
-use Rattle.refusal.proofs.Binds.{never, same-good, by-test, by-bind, by-check, by-and}
+use Rattle.refusal.proofs.Tests.{by-test}
+use Rattle.refusal.proofs.Binds.{never, same-good, by-bind, by-check, by-and}
 use Rattle.dictionary.specs.Dictionary.{Dictionary, Numbered, fixed, find, rowAt}
 use Rattle.dictionary.specs.declared.Row.{Row}
 use Rattle.dictionary.specs.declared.Field.{Field}

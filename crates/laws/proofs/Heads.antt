@@ -12,7 +12,8 @@ use lib.Seq.{drop-cons, take-at, drop-at, drop-drop}
 use borrow.Author.Tests.{leb-true, le-leb, lt-leb, ltb-true, ltb-false, lt-ltb, le-ltb, eqb-true}
 use Rattle.refusal.specs.Answers.{good}
 use Rattle.refusal.specs.Numbers.{header-too-short, not-dc, wrong-header-character, wrong-perimeter}
-use Rattle.refusal.proofs.Binds.{never, same-good, by-test, by-bind, by-check, by-seq, by-and, by-or}
+use Rattle.refusal.proofs.Tests.{by-test}
+use Rattle.refusal.proofs.Binds.{never, same-good, by-bind, by-check, by-seq, by-and, by-or}
 use Rattle.dictionary.specs.Dictionary.{between, upper, digit}
 use Rattle.text.specs.declared.Version.{Version}
 use Rattle.text.specs.declared.Version.the-variants.{V02, V03, V04}

@@ -10,7 +10,8 @@ use lib.Dec.{eqb}
 use lib.ListN.{length, length-append}
 use borrow.Author.Tests.{leb-true, le-leb, eqb-true, eqb-false}
 use Rattle.refusal.specs.Answers.{good}
-use Rattle.refusal.proofs.Binds.{never, same-good, by-test}
+use Rattle.refusal.proofs.Tests.{by-test}
+use Rattle.refusal.proofs.Binds.{never, same-good}
 use Rattle.dictionary.specs.Dictionary.{isLimit, allowed, fixed, full}
 use Rattle.dictionary.specs.declared.Limit.{Limit}
 use Rattle.dictionary.specs.declared.Limit.the-variants.{UpTo, NoLimit}

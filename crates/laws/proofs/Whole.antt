@@ -14,7 +14,8 @@ use Rattle.refusal.specs.Pick.{pick}
 use Rattle.refusal.specs.Answers.{Answer, good, refused}
 use Rattle.refusal.specs.Numbers.{text-too-long, lent-too-short, too-many-fields}
 use Rattle.refusal.specs.Limits.{limit, most-fields}
-use Rattle.refusal.proofs.Binds.{never, same-good, by-test, by-bind, by-check, by-and}
+use Rattle.refusal.proofs.Tests.{by-test}
+use Rattle.refusal.proofs.Binds.{never, same-good, by-bind, by-check, by-and}
 use Rattle.dictionary.specs.Dictionary.{Dictionary, allowed, full, distinct, plain}
 use Rattle.dictionary.specs.declared.Row.{Row}
 use Rattle.dictionary.specs.declared.Field.{Field}

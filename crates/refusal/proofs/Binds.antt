@@ -6,10 +6,12 @@ use mathlib.Core.Bool.{Bool, true, false, _&&_, _||_}
 use mathlib.Core.Path.{_≡_, refl}
 use native.Mathlib.Omega.{arith}
 use Rattle.refusal.specs.Answers.{Answer, good, refused, _>>=_, _>>_, check}
-use Rattle.refusal.specs.Pick.{pick}
 
 pub never : {A : Type 0} {P : Type 0} {k p : ℕ} {a : A} → refused k p ≡ good a → P
 never e = let z : _≡_ {A = ℕ} 0 1 = cc in absurd (omega arith)
+
+pub not-refused : {A P : Type 0} {a : A} {k p : ℕ} → good a ≡ refused k p → P
+not-refused e = let z : _≡_ {A = ℕ} 0 1 = cc in absurd (omega arith)
 
 pub same-good : {A : Type 0} {a b : A} → good a ≡ good b → a ≡ b
 same-good e = cc
@@ -21,11 +23,6 @@ by-bind (refused n p) f e k = never e
 pub by-check : {B P : Type 0} (b : Bool) (n p : ℕ) (x : Answer B) {y : B} → (check b n p >> x) ≡ good y → (b ≡ true → x ≡ good y → P) → P
 by-check true n p x e k = k refl e
 by-check false n p x e k = never e
-
--- a choice that came to z came to it by one of its two ways
-pub by-test : {A P : Type 0} (b : Bool) (x y z : A) → pick b x y ≡ z → (b ≡ true → x ≡ z → P) → (b ≡ false → y ≡ z → P) → P
-by-test true x y z e f g = f refl e
-by-test false x y z e f g = g refl e
 
 pub by-and : {P : Type 0} (a b : Bool) → (a && b) ≡ true → (a ≡ true → b ≡ true → P) → P
 by-and true b e k = k refl e
@@ -45,3 +42,12 @@ by-or false b e f g = g e
 pub or-right : (a b : Bool) → b ≡ true → (a || b) ≡ true
 or-right true b e = refl
 or-right false b e = e
+
+-- two tests that both hold
+pub left : (a b : Bool) → (a && b) ≡ true → a ≡ true
+left true b e = refl
+left false b e = e
+
+pub right : (a b : Bool) → (a && b) ≡ true → b ≡ true
+right true b e = e
+right false b e = clash e
