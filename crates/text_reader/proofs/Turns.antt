@@ -12,10 +12,10 @@ use lib.ListN.{length, getD, drop, length-drop}
 use lib.Seq.{slice, slice-cons, slice-empty, length-take-le}
 use borrow.Author.Tests.{le-leb, lt-leb}
 use Rattle.refusal.specs.Answers.{Answer, good, refused, _>>=_, _>>_, check}
-use Rattle.refusal.specs.Numbers.{unknown-identifier, zone-ends-inside, data-too-short, identifier-repeated, too-many-fields, refusal}
+use Rattle.refusal.specs.Numbers.{unknown-identifier, zone-ends-inside, data-too-short, identifier-repeated, too-many-fields}
 use Rattle.refusal.specs.Limits.{most-fields}
 use Rattle.refusal.specs.declared.Refusal.{Refusal}
-use Rattle.dictionary.specs.Dictionary.{Dictionary, Numbered, find}
+use Rattle.dictionary.specs.Dictionary.{Dictionary, find}
 use Rattle.dictionary.specs.Lookup.{soFar, foundSays}
 use Rattle.dictionary.specs.Rows.{rows, rowCount}
 use Rattle.dictionary.specs.declared.Row.{Row}

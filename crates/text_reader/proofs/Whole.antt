@@ -1,22 +1,20 @@
--- The whole text: from the answers of the readers of header, zone and signature to the definition's, and where the mark stands.
--- By cases on what the definition answers.
+-- The whole text: what reading it answers, by the answers of the readers of header, zone and signature, in the code's order; and the
+-- signed part, which stands within the text.
 -- Assumes nothing.
 use Prim.Native.Nat.{ℕ, suc, _+_, _-_, _≤_, _<_}
-use mathlib.Core.Bool.{Bool, true, false, _&&_}
-use mathlib.Core.List.{List, [], _∷_, _++_}
+use mathlib.Core.List.{List, []}
 use mathlib.Core.Path.{_≡_, refl, ap, sym, subst, _∙_}
 use native.Mathlib.Omega.{arith}
 use native.Mathlib.Numerals.{add-one}
-use lib.Dec.{leb, eqb}
-use lib.ListN.{length, take, drop, getD, replicate, length-drop}
+use lib.Dec.{leb}
+use lib.ListN.{length, take, drop, length-drop}
 use lib.Seq.{slice, length-slice, take-all}
-use borrow.Author.Tests.{leb-true, leb-false, le-leb, lt-leb}
-use Rattle.refusal.specs.Pick.{pick}
-use Rattle.refusal.specs.Answers.{Answer, good, refused, _>>=_, _>>_, check}
-use Rattle.refusal.specs.Numbers.{header-too-short, not-dc, no-mark, text-too-long, lent-too-short, refusal}
+use borrow.Author.Tests.{le-leb, lt-leb}
+use Rattle.refusal.specs.Answers.{Answer, good, refused}
+use Rattle.refusal.specs.Numbers.{no-mark, text-too-long, lent-too-short, refusal}
 use Rattle.refusal.specs.Limits.{limit, most-fields}
 use Rattle.refusal.specs.declared.Refusal.{Refusal}
-use Rattle.refusal.proofs.Binds.{never, same-good, by-bind, by-check}
+use Rattle.refusal.proofs.Binds.{same-good, by-bind, by-check}
 use Rattle.dictionary.specs.Rows.{rows}
 use Rattle.dictionary.specs.declared.Field.{Field}
 use Rattle.text.specs.declared.Version.{Version}
@@ -25,51 +23,18 @@ use Rattle.text.specs.declared.HeaderRead.{HeaderRead}
 use Rattle.text.specs.declared.SignatureRead.{SignatureRead}
 use Rattle.text.specs.declared.Mark.{Mark}
 use Rattle.text.specs.declared.Mark.the-variants.{Found, Missing}
-use Rattle.text.specs.Header.{Headed, size, versionOf, parts, readHeader}
+use Rattle.text.specs.Header.{size, readHeader}
 use Rattle.text.specs.Signature.{readSignature}
-use Rattle.text.specs.Text.{Halves, further, atMark, Reading, reading, readText, upToSigned, signedPart}
+use Rattle.text.specs.Text.{atMark, Reading, reading, readText, upToSigned}
 use Rattle.text.specs.Zone.{zone}
 use Rattle.text.specs.Code.{headerAnswer, markSays, signatureAnswer}
-use Rattle.text_reader.specs.Answers.{fieldsOf, zoneAnswer, textAnswer}
+use Rattle.text_reader.specs.Answers.{zoneAnswer, textAnswer}
 use Rattle.text_reader.specs.Code.{marked}
-use Rattle.text_reader.specs.declared.Outcome.{Outcome}
 use Rattle.text_reader.specs.declared.Outcome.the-variants.{Accepted, Refused}
 use Rattle.text_reader.specs.declared.ZoneRead.{ZoneRead}
-use Rattle.text_reader.specs.declared.TextRead.{TextRead}
-use Rattle.text_reader.proofs.Named.{Named, header-named, signature-named}
-
--- what the reader of the header answered
-header-refused : (x : Answer Headed) (h : HeaderRead) → h ≡ headerAnswer x → (h .refusal .number ≡ 0 → ⊥) → x ≡ refused (h .refusal .number) (h .refusal .place)
-header-refused (good x) h e n = absurd (n (ap (λ (z : HeaderRead). z .refusal .number) e))
-header-refused (refused k p) h e n = ap (λ (z : HeaderRead). refused (z .refusal .number) (z .refusal .place)) (sym e)
-
-header-good : (x : Answer Headed) (h : HeaderRead) → Named x → h ≡ headerAnswer x → h .refusal .number ≡ 0 → x ≡ good (record { version = h .version; header = h .header })
-header-good (good x) h n e z = ap (λ (y : HeaderRead). good (record { version = y .version; header = y .header })) (sym e)
-header-good (refused k p) h n e z = let q : h .refusal .number ≡ k = ap (λ (y : HeaderRead). y .refusal .number) e in let m : 0 < k = n .number k p refl in absurd (omega arith)
-
--- that of the zone
-outcome-clash : {P : Type 0} {w : Refusal} → Refused w ≡ Accepted → P
-outcome-clash e = let z : _≡_ {A = ℕ} 0 1 = cc in absurd (omega arith)
-
-zone-refused : (x : Answer (List Field)) (z : ZoneRead) (w : Refusal) → z ≡ zoneAnswer x → z .outcome ≡ Refused w → x ≡ refused (w .number) (w .place)
-zone-refused (good l) z w e o = outcome-clash (sym o ∙ ap (λ (y : ZoneRead). y .outcome) e)
-zone-refused (refused k p) z w e o =
-    let q : Refused (refusal k p) ≡ Refused w = ap (λ (y : ZoneRead). y .outcome) (sym e) ∙ o in
-    let r : refusal k p ≡ w = cc in
-    ap (λ (y : Refusal). refused (y .number) (y .place)) r
-
-zone-good : (x : Answer (List Field)) (z : ZoneRead) → z ≡ zoneAnswer x → z .outcome ≡ Accepted → (l : List Field) × (x ≡ good l) × (z .fields ≡ fieldsOf l)
-zone-good (good l) z e o = (l, refl, ap (λ (y : ZoneRead). y .fields) e)
-zone-good (refused k p) z e o = outcome-clash (ap (λ (y : ZoneRead). y .outcome) (sym e) ∙ o)
-
--- that of the signature
-signature-refused : (x : Answer (List ℕ)) (s : SignatureRead) → s ≡ signatureAnswer x → (s .refusal .number ≡ 0 → ⊥) → x ≡ refused (s .refusal .number) (s .refusal .place)
-signature-refused (good l) s e n = absurd (n (ap (λ (z : SignatureRead). z .refusal .number) e))
-signature-refused (refused k p) s e n = ap (λ (z : SignatureRead). refused (z .refusal .number) (z .refusal .place)) (sym e)
-
-signature-good : (x : Answer (List ℕ)) (s : SignatureRead) → Named x → s ≡ signatureAnswer x → s .refusal .number ≡ 0 → (l : List ℕ) × (x ≡ good l) × (s ≡ signatureAnswer (good l))
-signature-good (good l) s n e z = (l, refl, e)
-signature-good (refused k p) s n e z = let q : s .refusal .number ≡ k = ap (λ (y : SignatureRead). y .refusal .number) e in let m : 0 < k = n .number k p refl in absurd (omega arith)
+use Rattle.text_reader.proofs.Named.{header-named, signature-named}
+use Rattle.text_reader.proofs.Answered.{header-refused, header-good, zone-refused, zone-good, signature-refused, signature-good}
+use Rattle.text_reader.proofs.Marks.{header-long, mark-long, mark-within}
 
 -- behind the header: the zone up to the mark at m, whose reader answered z, and the signature, whose reader answered s
 module _ (v : Version) (header : Header) (t : List ℕ) (m : ℕ) (vm : size v ≤ m) (mt : m < length t) (n : ℕ) (ne : n ≡ size v)
@@ -115,48 +80,6 @@ module _ (v : Version) (header : Header) (t : List ℕ) (m : ℕ) (vm : size v �
         let w = sym signed-is in
         (λ i. record { outcome = Accepted; header = header; fields = f .2 i; signature = g .2 i .bytes; «signature_length» = g .2 i .count; «signed_length» = w i })
         ∙ ap textAnswer (sym (both-good (f .0) (g .0) (f .1) (g .1)))
-
--- a header that was read stands within the text
-header-long : (t : List ℕ) (x : Headed) → readHeader t ≡ good x → size (x .version) ≤ length t
-unfolding readHeader
-header-long t x e =
-    by-check (leb 22 (length t)) header-too-short (length t) _ e λ _ e.
-    by-check (eqb (getD t 0 0) 68 && eqb (getD t 1 0) 67) not-dc 0 _ e λ _ e.
-    by-bind (versionOf (getD t 2 0) (getD t 3 0)) _ e λ v _ e.
-    by-check (leb (size v) (length t)) header-too-short (length t) _ e λ b e.
-    by-bind (parts v t) _ e λ h _ e.
-    subst (λ (y : Headed). size (y .version) ≤ length t) (same-good e) (leb-true (size v) (length t) b)
-
--- the mark parts the characters in two
-mark-long : (p : ℕ) (l : List ℕ) (h : Halves) → atMark p l ≡ good h → length l ≡ suc (length (h .before) + length (h .behind))
-unfolding atMark
-mark-long p [] h e = never e
-mark-long p (c ∷ l) h e = go (eqb c 31) (atMark (suc p) l) (mark-long (suc p) l) refl e
-  where
-    go : (b : Bool) (x : Answer Halves) → ((y : Halves) → atMark (suc p) l ≡ good y → length l ≡ suc (length (y .before) + length (y .behind))) → atMark (suc p) l ≡ x
-        → pick b (good (record { before = []; behind = l })) (further c x) ≡ good h → suc (length l) ≡ suc (length (h .before) + length (h .behind))
-    go true x more q e =
-        let w : suc (length l) ≡ suc (0 + length l) = omega arith in
-        subst (λ (y : Halves). suc (length l) ≡ suc (length (y .before) + length (y .behind))) (same-good e) w
-    go false (good y) more q e =
-        let w : suc (length l) ≡ suc (suc (length (y .before)) + length (y .behind)) = omega (arith, more y q) in
-        subst (λ (u : Halves). suc (length l) ≡ suc (length (u .before) + length (u .behind))) (same-good e) w
-    go false (refused k r) more q e = never e
-
--- so a mark that was found from n on stands between n and the end
-mark-within : (n k : ℕ) (t : List ℕ) → n ≤ length t → atMark n (drop n t) ≡ good (record { before = slice n k t; behind = drop (suc k) t }) → (n ≤ k) × (k < length t)
-mark-within n k t h e = go (leb k (length t)) refl
-  where
-    long : length (drop n t) ≡ suc (length (slice n k t) + length (drop (suc k) t))
-    long = mark-long n (drop n t) (record { before = slice n k t; behind = drop (suc k) t }) e
-
-    go : (b : Bool) → leb k (length t) ≡ b → (n ≤ k) × (k < length t)
-    go true q = omega (arith, long, length-drop n t, length-drop (suc k) t, length-slice n k t (leb-true k (length t) q))
-    go false q =
-        let f : length t < k = leb-false k (length t) q in
-        let g : take k t ≡ t = take-all k t (omega arith) in
-        let u : length (slice n k t) ≡ length (drop n t) = ap (λ (l : List ℕ). length (drop n l)) g in
-        absurd (omega (arith, long, u))
 
 -- the whole text, whose header's reader answered h
 module _ (t : List ℕ) (h : HeaderRead) (he : h ≡ headerAnswer (readHeader t)) where
@@ -225,10 +148,3 @@ part-within room t = go (readText rows room t) refl
 pub part-is : (a : Answer Reading) (t : List ℕ) → take (textAnswer a .«signed_length») t ≡ upToSigned a t
 part-is (good x) t = refl
 part-is (refused k p) t = refl
-
--- ONE ANSWER ONLY: of `read_text`, and of `signed_part`
-pub text-one : (room : ℕ) (t : List ℕ) (x y : TextRead) → x ≡ textAnswer (readText rows room t) → y ≡ textAnswer (readText rows room t) → x ≡ y
-text-one room t x y p q = p ∙ sym q
-
-pub part-one : (t x y : List ℕ) → x ≡ signedPart rows most-fields t → y ≡ signedPart rows most-fields t → x ≡ y
-part-one t x y p q = p ∙ sym q

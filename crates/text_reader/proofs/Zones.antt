@@ -2,7 +2,7 @@
 -- them answers what reading the zone does. By one field more.
 -- Assumes nothing.
 use Prim.Native.Nat.{ℕ, zero, suc, _+_, _-_, _≤_, _<_}
-use mathlib.Core.Bool.{Bool, true, false, _||_}
+use mathlib.Core.Bool.{Bool, true, false, _||_, or-true, or-false}
 use mathlib.Core.List.{List, [], _∷_, _++_}
 use mathlib.Core.Path.{_≡_, refl, ap, sym, subst, _∙_}
 use native.Mathlib.Omega.{arith}
@@ -10,8 +10,8 @@ use native.Mathlib.Numerals.{add-one}
 use lib.Dec.{eqb}
 use lib.ListN.{length, getD, drop, set, replicate, length-append, length-drop, length-set, length-replicate, getD-replicate}
 use lib.Seq.{slice, slice-empty, drop-cons, set-append-seam, getD-set-same, getD-set-other, append-snoc}
-use borrow.Author.Tests.{eqb-true, eqb-false, eq-eqb}
-use Rattle.refusal.specs.Answers.{Answer, good, refused, _>>=_}
+use borrow.Author.Tests.{eqb-true, eqb-false}
+use Rattle.refusal.specs.Answers.{good, refused}
 use Rattle.refusal.specs.Limits.{most-fields}
 use Rattle.refusal.specs.declared.Refusal.{Refusal}
 use Rattle.dictionary.specs.Dictionary.{Dictionary}
@@ -24,7 +24,6 @@ use Rattle.text_reader.specs.Code.{Marks, fieldSays}
 use Rattle.text_reader.specs.declared.FieldRead.{FieldRead}
 use Rattle.text_reader.specs.declared.FieldRead.the-variants.{One, Refused}
 use Rattle.text_reader.specs.declared.Outcome.the-variants.{Accepted}
-use Rattle.text_reader.specs.declared.ZoneRead.{ZoneRead}
 
 -- one field more in the list
 fields-more : (l : List Field) (f : Field) → length l < most-fields → record { list = set (fieldsOf l .list) (length l) f; count = length l + 1 } ≡ fieldsOf (l ++ (f ∷ []))
@@ -39,24 +38,12 @@ fields-more l f h =
 -- one row more among the marks
 taken-more : (n : ℕ) (l : List Field) (f : Field) → taken n (l ++ (f ∷ [])) ≡ (taken n l || eqb n (f .row))
 unfolding taken
-taken-more n [] f = go (eqb n (f .row))
-  where
-    go : (b : Bool) → (b || false) ≡ b
-    go true = refl
-    go false = refl
+taken-more n [] f = or-false (eqb n (f .row))
 taken-more n (g ∷ l) f = go (eqb n (g .row)) (taken-more n l f)
   where
     go : (b : Bool) → taken n (l ++ (f ∷ [])) ≡ (taken n l || eqb n (f .row)) → (b || taken n (l ++ (f ∷ []))) ≡ ((b || taken n l) || eqb n (f .row))
     go true e = refl
     go false e = e
-
-or-true : (b : Bool) → (b || true) ≡ true
-or-true true = refl
-or-true false = refl
-
-or-false : (b : Bool) → (b || false) ≡ b
-or-false true = refl
-or-false false = refl
 
 marks-more : (used : List Bool) (l : List Field) (f : Field) → f .row < length used → Marks used l → Marks (set used (f .row) true) (l ++ (f ∷ []))
 marks-more used l f h m n k = go (eqb n (f .row)) refl

@@ -1,5 +1,4 @@
 -- What the readers answer, every byte of it, by the definitions.
-use Prim.Native.Nat.{ℕ}
 use mathlib.Core.Bool.{false}
 use mathlib.Core.List.{List, [], _++_}
 use lib.ListN.{length, drop, replicate}
@@ -11,7 +10,6 @@ use Rattle.dictionary.specs.declared.Field.{Field}
 use Rattle.dictionary.specs.declared.Fields.{Fields}
 use Rattle.text.specs.Text.{Reading}
 use Rattle.text.specs.Code.{noHeader}
-use Rattle.text_reader.specs.declared.Outcome.{Outcome}
 use Rattle.text_reader.specs.declared.Outcome.the-variants.{Accepted, Refused}
 use Rattle.text_reader.specs.declared.ZoneRead.{ZoneRead}
 use Rattle.text_reader.specs.declared.TextRead.{TextRead}

@@ -2,7 +2,7 @@
 // part is given back as a part of the caller's text.
 ghost use mathlib.Core.Path.{_≡_};
 ghost use mathlib.Core.List.{List, []};
-ghost use Prim.Native.Nat.{ℕ, suc, _+_, _-_, _≤_, _<_};
+ghost use Prim.Native.Nat.{suc, _+_, _-_, _≤_, _<_};
 ghost use lib.ListN.{length, drop};
 ghost use lib.Seq.{slice};
 ghost use Rattle.refusal.specs.Answers.{refused};
@@ -16,6 +16,10 @@ ghost use Rattle.text.specs.Text.{reading, readText, signedPart};
 ghost use Rattle.text_reader.specs.Answers.{noField, fieldsOf, zoneAnswer, textAnswer};
 ghost use Rattle.text_reader.specs.Code.{stepSays, dataSays, DataFits, StepFits, fieldOf, rowSays, RowFits, Marks, fieldSays, FieldFits, refusedField, marked};
 
+// A message has at most 64 fields, and a lent list has room for as many.
+pub const MOST_FIELDS: usize = 64;
+
+// A message, or a refusal with its number and place.
 pub enum Outcome {
     Accepted,
     Refused(refusal::Refusal),
@@ -56,8 +60,8 @@ pub enum FieldRead {
     Refused(refusal::Refusal),
 }
 
-// "Fixed length: that many characters, no separator. Variable: the data end at a 29, or at a 30 that marks them cut short. When they
-// reach the greatest length a 30 directly behind is taken as the mark; otherwise nothing separates them from the next field."
+// What the character c does behind the n characters of data that start at `start`. "Variable: the data end at a 29, or at a 30 that marks
+// them cut short. When they reach the greatest length a 30 directly behind is taken as the mark."
 fn act(r: dictionary::Row, text: &[u8], start: usize, n: usize, c: u8) -> text::Does
     requires { ⌜ start + n ≤ length (now text) ⌝ }
     ensures { λ x. ⌜ x ≡ does r (soFar (now (text .entry)) start n) c ⌝ }
@@ -67,12 +71,12 @@ fn act(r: dictionary::Row, text: &[u8], start: usize, n: usize, c: u8) -> text::
     let fixed = dictionary::is_fixed(r);
     if full {
         if fixed {
-            return text::Does::Follows;
+            return text::Does::Follows; // "that many characters, no separator"
         }
         if c == 30 {
             return text::Does::Cuts;
         }
-        return text::Does::Follows;
+        return text::Does::Follows; // "otherwise nothing separates them from the next field"
     }
     let stands = dictionary::may_stand(r, text, start, n, c);
     if fixed {
@@ -134,10 +138,11 @@ fn read_data(r: dictionary::Row, at: usize, text: &[u8], start: usize, end: usiz
     if dictionary::is_limit(m, n) {
         return DataRead::Data(n, false, end);
     }
-    DataRead::Refused(refusal::Refusal {
+    let open = refusal::Refusal {
         number: refusal::ZONE_ENDS_INSIDE,
         place: at,
-    })
+    };
+    DataRead::Refused(open)
 }
 
 fn refuse_field(number: u8, place: usize) -> FieldRead
@@ -149,7 +154,7 @@ fn refuse_field(number: u8, place: usize) -> FieldRead
     })
 }
 
-// The record of a field of the row n, whose identifier stands at p: its data, then 19, so that "17 beats 19".
+// The record of a field of the row n, whose identifier stands at p: "the data left to right (18, or 17 at the zone's end), 19".
 fn read_record(n: usize, r: dictionary::Row, text: &[u8], p: usize, end: usize) -> FieldRead
     requires { ⌜ (p + 2 ≤ end) × (end ≤ length (now text)) × (length (now text) ≤ limit) × (n < rowCount) ⌝ }
     ensures says { λ x. ⌜ rowSays x (now (text .entry)) end ≡ fieldOf n r p (slice (p + 2) end (now (text .entry))) ⌝ }
@@ -175,7 +180,7 @@ fn read_record(n: usize, r: dictionary::Row, text: &[u8], p: usize, end: usize) 
 }
 
 // The field whose identifier stands at p, behind `count` fields that take the rows marked in `used`.
-// "17 for half an identifier, 16, 20, 27, the data left to right"
+// "fields left to right: 17 for half an identifier, 16, 20, 27, the data left to right"
 fn read_field(text: &[u8], p: usize, end: usize, used: &[bool; 110], count: usize) -> FieldRead
     requires { ⌜ (p < end) × (end ≤ length (now text)) × (length (now text) ≤ limit) × (count ≤ most-fields) ⌝ }
     ensures says { λ x. ⌜ ((before : List Field) → Marks (now (used .entry)) before → fieldSays x (now (text .entry)) end count before ≡ zone rows (most-fields - count) before p (slice p end (now (text .entry)))) ⌝ }
@@ -190,7 +195,7 @@ fn read_field(text: &[u8], p: usize, end: usize, used: &[bool; 110], count: usiz
             if used[n] {
                 return refuse_field(refusal::IDENTIFIER_REPEATED, p);
             }
-            if count == 64 {
+            if count == MOST_FIELDS {
                 return refuse_field(refusal::TOO_MANY_FIELDS, p);
             }
             read_record(n, r, text, p, end)
@@ -222,7 +227,7 @@ fn no_fields() -> dictionary::Fields
 }
 
 // "An identifier stands once at most. Order is free and is kept. A zone may be empty." The zone is what stands from `start` up to `end`.
-pub fn read_zone(text: &[u8], start: usize, end: usize) -> ZoneRead
+fn read_zone(text: &[u8], start: usize, end: usize) -> ZoneRead
     requires { ⌜ (start ≤ end) × (end ≤ length (now text)) × (length (now text) ≤ limit) ⌝ }
     ensures { λ x. ⌜ x ≡ zoneAnswer (zone rows most-fields [] start (slice start end (now (text .entry)))) ⌝ }
 {
@@ -327,7 +332,7 @@ fn read_message(text: &[u8]) -> TextRead
     }
 }
 
-// A text, for a lent list of `room` records. "5 (place 1,000), 6, .."
+// A text, whose fields are to go into a lent list of `room` records. "Text reading: 5 (place 1,000), 6", and then the text itself.
 pub fn read_text(text: &[u8], room: usize) -> TextRead
     ensures { λ r. ⌜ r ≡ textAnswer (readText rows room (now (text .entry))) ⌝ }
 {
@@ -337,7 +342,7 @@ pub fn read_text(text: &[u8], room: usize) -> TextRead
             place: refusal::LIMIT,
         });
     }
-    if room < 64 {
+    if room < MOST_FIELDS {
         return refuse_text(refusal::Refusal {
             number: refusal::LENT_TOO_SHORT,
             place: 0,
@@ -350,7 +355,7 @@ pub fn read_text(text: &[u8], room: usize) -> TextRead
 pub fn signed_part(text: &[u8]) -> &[u8]
     ensures { λ r. ⌜ now r ≡ signedPart rows most-fields (now (text .entry)) ⌝ }
 {
-    let r = read_text(text, 64);
+    let r = read_text(text, MOST_FIELDS);
     let n = r.signed_length;
     &text[..n]
 }

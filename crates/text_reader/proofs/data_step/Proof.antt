@@ -1,5 +1,5 @@
 -- `data_step` meets its contract: each arm is what reading on answers after that character. Assumes nothing.
-use mathlib.Core.Path.{_≡_, sym, _∙_}
+use mathlib.Core.Path.{sym, _∙_}
 use native.Mathlib.Omega.{arith}
 use Rattle.text_reader.proofs.Steps.{step-on, step-ends, step-cuts, step-follows, step-wrong}
 use borrow.Author.Needs.{needs}

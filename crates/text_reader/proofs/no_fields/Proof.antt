@@ -1,5 +1,4 @@
 -- `no_fields` meets its contract: the list is its first record, 64 times. Assumes nothing.
-use mathlib.Core.Path.{_≡_}
 use lib.ListN.{replicate}
 use borrow.Author.Needs.{needs}
 use Rattle.text_reader.proofs.no_fields.Statement.{statement}

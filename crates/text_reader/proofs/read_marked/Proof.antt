@@ -1,5 +1,5 @@
 -- `read_marked` meets its contract: refused in the zone, refused in the signature, or read. Assumes nothing.
-use mathlib.Core.Path.{_≡_, sym, ap, _∙_}
+use mathlib.Core.Path.{sym, ap, _∙_}
 use native.Mathlib.Omega.{arith}
 use Rattle.text_reader.specs.Answers.{textAnswer}
 use Rattle.text_reader.proofs.Whole.{marked-zone, marked-signature, marked-good}

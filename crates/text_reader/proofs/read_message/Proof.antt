@@ -1,5 +1,5 @@
 -- `read_message` meets its contract: refused in the header, without a mark, or read behind the header. Assumes nothing.
-use mathlib.Core.Path.{_≡_, sym, ap, _∙_}
+use mathlib.Core.Path.{sym, ap, _∙_}
 use native.Mathlib.Omega.{arith}
 use Rattle.text_reader.specs.Answers.{textAnswer}
 use Rattle.text_reader.proofs.Whole.{read-refused, header-fits, read-missing, mark-fits, read-found}

@@ -1,7 +1,7 @@
 -- `read_record` meets its contract: refused in the data, too short, or a record; a length that fits the text fits its 32 bits.
 -- Assumes nothing.
 use Prim.Native.Nat.{_+_}
-use mathlib.Core.Path.{_≡_, sym, ap, subst, _∙_}
+use mathlib.Core.Path.{sym, ap, subst, _∙_}
 use native.Mathlib.Omega.{arith}
 use Rattle.text_reader.specs.Code.{DataFits, rowSays, RowFits}
 use Rattle.text_reader.proofs.Turns.{data-refused, data-short, data-whole}

@@ -1,5 +1,5 @@
 -- `read_text` meets its contract: the two limits, and then the text itself. Assumes nothing.
-use mathlib.Core.Path.{_≡_, sym, ap, _∙_}
+use mathlib.Core.Path.{sym, ap, _∙_}
 use Rattle.text_reader.specs.Answers.{textAnswer}
 use Rattle.text_reader.proofs.Whole.{too-long, too-little, in-limits}
 use borrow.Author.Needs.{needs}

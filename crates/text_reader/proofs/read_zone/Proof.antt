@@ -1,7 +1,7 @@
 -- `read_zone` meets its contract: the loop keeps `Filled`, and stops at a refusal or at the zone's end. Assumes nothing.
 use Prim.Native.Nat.{_-_, _≤_}
 use mathlib.Core.Bool.{false}
-use mathlib.Core.Path.{_≡_, refl, sym, ap, subst, _∙_}
+use mathlib.Core.Path.{sym, ap, subst, _∙_}
 use native.Mathlib.Omega.{arith}
 use lib.ListN.{replicate}
 use Rattle.dictionary.specs.Rows.{rowCount}

@@ -1,5 +1,4 @@
 -- `refuse_text` meets its contract: zeros beside the refusal. Assumes nothing.
-use mathlib.Core.Path.{_≡_}
 use lib.ListN.{replicate}
 use Rattle.text.specs.Code.{noHeader}
 use Rattle.text_reader.specs.declared.Outcome.the-variants.{Refused}

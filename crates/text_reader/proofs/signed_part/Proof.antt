@@ -1,6 +1,6 @@
 -- `signed_part` meets its contract: the signed part stands within the text, and a refused text has the length 0. Assumes nothing.
 use Prim.Native.Nat.{_≤_}
-use mathlib.Core.Path.{_≡_, sym, ap, subst, _∙_}
+use mathlib.Core.Path.{sym, ap, subst, _∙_}
 use lib.ListN.{length, take}
 use lib.Seq.{length-take-le}
 use Rattle.refusal.specs.Limits.{most-fields}

@@ -1,0 +1,88 @@
+-- The checks of a record, each at the test that decides it: a number looked for in a list place by place, characters that stand in
+-- turn, and the mark behind the data. By cases on the test.
+-- Assumes nothing.
+use Prim.Native.Nat.{ℕ, suc, _+_, _≤_, _<_}
+use mathlib.Core.Bool.{Bool, true, false, _&&_, _||_}
+use mathlib.Core.List.{List, [], _∷_, _++_, append-nil}
+use mathlib.Core.Path.{_≡_, refl, sym, ap, _∙_}
+use native.Mathlib.Numerals.{add-one}
+use native.Mathlib.Omega.{arith}
+use lib.ListN.{length, getD, take, drop, length-append, drop-of-length-le}
+use lib.Seq.{take-suc, drop-cons}
+use borrow.Author.Tests.{eq-eqb, ne-eqb}
+use Rattle.refusal.specs.Pick.{pick}
+use Rattle.refusal.proofs.Binds.{clash}
+use Rattle.dictionary.specs.Dictionary.{allowed, isLimit, full}
+use Rattle.dictionary.specs.declared.Row.{Row}
+use Rattle.text.specs.declared.Header.{Header}
+use Rattle.text.specs.declared.Version.{Version}
+use Rattle.text.specs.declared.Version.the-variants.{V02, V03, V04}
+use Rattle.text.specs.Header.{size, versionChars, digits, headerChars}
+use Rattle.text.specs.Signature.{lengthOfBytes}
+use Rattle.text.specs.Text.{inTurn, spelled}
+use Rattle.text_writer.specs.Writing.{among, markOf}
+
+module _ (n : ℕ) (l : List ℕ) where
+  pub among-here : (i : ℕ) → i < length l → n ≡ getD l i 0 → true ≡ among n (drop i l)
+  unfolding among
+  among-here i h e = rw (drop-cons l i 0 h, eq-eqb n (getD l i 0) e)
+
+  pub among-next : (i : ℕ) → i < length l → (n ≡ getD l i 0 → ⊥) → among n (drop (i + 1) l) ≡ among n (drop i l)
+  unfolding among
+  among-next i h e = rw (add-one i, drop-cons l i 0 h, ne-eqb n (getD l i 0) e)
+
+  pub among-none : (i : ℕ) → length l ≤ i → false ≡ among n (drop i l)
+  unfolding among
+  among-none i h = rw (drop-of-length-le l {i = i} h)
+
+module _ (r : Row) (l : List ℕ) where
+  pub turn-wrong : (i : ℕ) → i < length l → allowed r (take i l) (getD l i 0) ≡ false → false ≡ inTurn r (take i l) (drop i l)
+  unfolding inTurn
+  turn-wrong i h e = rw (drop-cons l i 0 h, e)
+
+  pub turn-next : (i : ℕ) → i < length l → allowed r (take i l) (getD l i 0) ≡ true → inTurn r (take (i + 1) l) (drop (i + 1) l) ≡ inTurn r (take i l) (drop i l)
+  unfolding inTurn
+  turn-next i h e = rw (add-one i, take-suc l i 0 h, drop-cons l i 0 h, e)
+
+  pub turn-end : (i : ℕ) → length l ≤ i → true ≡ inTurn r (take i l) (drop i l)
+  unfolding inTurn
+  turn-end i h = rw (drop-of-length-le l {i = i} h)
+
+-- the mark behind data that are not cut
+module _ (r : Row) (n : ℕ) where
+  pub mark-full : (cut : Bool) → cut ≡ false → isLimit (r .greatest) n ≡ true → 0 ≡ markOf r n cut
+  mark-full true e f = clash (sym e)
+  mark-full false e f = rw f
+
+  pub mark-open : (cut : Bool) → cut ≡ false → isLimit (r .greatest) n ≡ false → 29 ≡ markOf r n cut
+  mark-open true e f = clash (sym e)
+  mark-open false e f = rw f
+
+-- a field's characters, without a mark and with one
+no-ending : (b : Bool) → pick {A = ℕ} b 0 29 ≡ 0 → pick {A = List ℕ} b [] (29 ∷ []) ≡ []
+no-ending true e = refl
+no-ending false e = absurd (omega arith)
+
+an-ending : (b : Bool) → (pick {A = ℕ} b 0 29 ≡ 0 → ⊥) → pick {A = List ℕ} b [] (29 ∷ []) ≡ pick b 0 29 ∷ []
+an-ending true e = absurd (e refl)
+an-ending false e = refl
+
+module _ (r : Row) (l : List ℕ) where
+  pub spelled-whole : (cut : Bool) → markOf r (length l) cut ≡ 0 → spelled r l cut ≡ r .first ∷ r .second ∷ l
+  spelled-whole true e = absurd (omega arith)
+  spelled-whole false e = ap (λ (m : List ℕ). r .first ∷ r .second ∷ (l ++ m)) (no-ending (full r l) e) ∙ ap (λ (m : List ℕ). r .first ∷ r .second ∷ m) (append-nil l)
+
+  pub spelled-marked : (cut : Bool) → (markOf r (length l) cut ≡ 0 → ⊥) → spelled r l cut ≡ r .first ∷ r .second ∷ (l ++ (markOf r (length l) cut ∷ []))
+  spelled-marked true e = refl
+  spelled-marked false e = ap (λ (m : List ℕ). r .first ∷ r .second ∷ (l ++ m)) (an-ending (full r l) e)
+
+-- a header has as many characters as its version says
+pub header-long : (v : Version) (h : Header) → length (h .authority) ≡ 4 → length (h .certificate) ≡ 4 → length (h .doctype) ≡ 2 → length (h .perimeter) ≡ 2 → length (h .country) ≡ 2
+    → length (headerChars v h) ≡ size v
+unfolding headerChars digits
+header-long V02 h a b t p c = simp length-append (omega arith)
+header-long V03 h a b t p c = simp length-append (omega arith)
+header-long V04 h a b t p c = simp length-append (omega arith)
+
+pub no-signature : (n : ℕ) → (n ≡ 64 → ⊥) → (n ≡ 96 → ⊥) → (n ≡ 132 → ⊥) → false ≡ lengthOfBytes n
+no-signature n a b c = rw (ne-eqb n 64 a, ne-eqb n 96 b, ne-eqb n 132 c)

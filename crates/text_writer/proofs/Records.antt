@@ -1,0 +1,92 @@
+-- A record's checks in their order: what writing it answers at the test that decides, and what room it takes.
+-- Each law follows the code's path to a refusal, and rewrites by the tests that it passed. Assumes nothing.
+use Prim.Native.Nat.{ℕ, suc, _+_, _-_, _≤_, _<_}
+use mathlib.Core.Bool.{Bool, true, false, not, _&&_, _||_}
+use mathlib.Core.List.{List, [], _∷_, _++_, map}
+use mathlib.Core.Path.{_≡_, refl, sym, ap, subst, _∙_}
+use native.Mathlib.Omega.{arith}
+use lib.ListN.{length, take, drop, length-drop}
+use lib.Dec.{leb, eqb}
+use lib.Seq.{length-take-le}
+use borrow.Author.Tests.{le-leb, lt-leb}
+use Rattle.refusal.specs.Answers.{Answer, good, refused, _>>=_, _>>_, check}
+use Rattle.refusal.specs.Numbers.{refusal, wrong-character, data-too-short, identifier-repeated, data-too-long, fixed-cut, no-row}
+use Rattle.refusal.specs.declared.Refusal.{Refusal as RefusalOf}
+use Rattle.dictionary.specs.Dictionary.{Dictionary, fixed, rowAt}
+use Rattle.dictionary.specs.Lookup.{rowFoundSays}
+use Rattle.dictionary.specs.Rows.{rows}
+use Rattle.dictionary.specs.declared.Row.{Row}
+use Rattle.dictionary.specs.declared.RowFound.{RowFound}
+use Rattle.dictionary.specs.declared.Field.{Field}
+use Rattle.text.specs.Zone.{taken}
+use Rattle.text.specs.Text.{dataOf, within, inTurn, spelled, writeField}
+use Rattle.text_writer.specs.declared.Room.{Room}
+use Rattle.text_writer.specs.declared.Room.the-variants.{Takes, Refused}
+use Rattle.text_writer.specs.Writing.{roomOf, Below, rowsOf, among, writeData}
+
+-- a refusal is below any bound
+pub refused-below : (m : ℕ) {x : Room} {k p : ℕ} → x ≡ roomOf (refused k p) → Below m x
+refused-below m e = subst (Below m) (sym e) tt
+
+pub told-below : (m : ℕ) {x : Room} {r : RefusalOf} → x ≡ Refused r → Below m x
+told-below m e = subst (Below m) (sym e) tt
+
+module _ (r : Row) (chars : List ℕ) (cut : Bool) (i : ℕ) where
+  pub data-cut : (cut && fixed r) ≡ true → roomOf (refused fixed-cut i) ≡ roomOf (writeData r chars cut i)
+  unfolding writeData
+  data-cut a = rw a
+
+  module _ (a : (cut && fixed r) ≡ false) where
+    pub data-long : within (r .greatest) (length chars) ≡ false → roomOf (refused data-too-long i) ≡ roomOf (writeData r chars cut i)
+    unfolding writeData
+    data-long b = rw (a, b)
+
+    module _ (b : within (r .greatest) (length chars) ≡ true) where
+      pub data-wrong : inTurn r [] chars ≡ false → roomOf (refused wrong-character i) ≡ roomOf (writeData r chars cut i)
+      unfolding writeData
+      data-wrong t = rw (a, b, t)
+
+      module _ (t : inTurn r [] chars ≡ true) where
+        pub data-short : length chars < r .least → roomOf (refused data-too-short i) ≡ roomOf (writeData r chars cut i)
+        unfolding writeData
+        data-short l = rw (a, b, t, lt-leb (r .least) (length chars) l)
+
+        pub data-good : r .least ≤ length chars → Takes (length (spelled r chars cut)) ≡ roomOf (writeData r chars cut i)
+        unfolding writeData
+        data-good l = rw (a, b, t, le-leb (r .least) (length chars) l)
+
+-- the rows of the records before it tell whether a record repeats one
+pub among-rows : (n : ℕ) (l : List Field) → among n (rowsOf l) ≡ taken n l
+unfolding among taken
+among-rows n [] = refl
+among-rows n (f ∷ l) = ap (λ b. eqb n (f .row) || b) (among-rows n l)
+
+pub data-length : (s : List ℕ) (f : Field) → f .start + f .length ≤ length s → length (dataOf s f) ≡ f .length
+data-length s f h = length-take-le (f .length) (drop (f .start) s) (omega (arith, length-drop (f .start) s))
+
+module _ (d : Dictionary) (s : List ℕ) (before : List Field) (i : ℕ) (f : Field) where
+  pub field-nowhere : rowAt d (f .row) i ≡ refused no-row i → roomOf (refused no-row i) ≡ roomOf (writeField d s before i f)
+  unfolding writeField
+  field-nowhere e = rw e
+
+  module _ (r : Row) (e : rowAt d (f .row) i ≡ good r) where
+    pub field-outside : length s < f .start + f .length → roomOf (refused no-row i) ≡ roomOf (writeField d s before i f)
+    unfolding writeField
+    field-outside h = rw (e, lt-leb (f .start + f .length) (length s) h)
+
+    module _ (h : f .start + f .length ≤ length s) where
+      pub field-repeated : taken (f .row) before ≡ true → roomOf (refused identifier-repeated i) ≡ roomOf (writeField d s before i f)
+      unfolding writeField
+      field-repeated t = rw (e, le-leb (f .start + f .length) (length s) h, t)
+
+      pub field-data : taken (f .row) before ≡ false → writeData r (dataOf s f) (f .cut) i ≡ writeField d s before i f
+      unfolding writeField writeData
+      field-data t = rw (e, le-leb (f .start + f .length) (length s) h, t, data-length s f h)
+
+-- what the dictionary's answer for a record's row says
+pub row-is : (row n i : ℕ) {x y : RowFound} → n ≡ row → ((j : ℕ) → rowFoundSays x j ≡ rowAt rows n j) → x ≡ y → rowAt rows row i ≡ rowFoundSays y i
+row-is row n i e f g = ap (λ m. rowAt rows m i) (sym e) ∙ sym (f i) ∙ ap (λ z. rowFoundSays z i) g
+
+-- the data as a part of the slice
+pub part-is : (s : List ℕ) {a b n m : ℕ} → a ≡ n → b ≡ m → take ((a + b) - a) (drop a s) ≡ take m (drop n s)
+part-is s {a = a} {b = b} {m = m} e f = let z : (a + b) - a ≡ m = omega arith in ap (λ k. take k (drop a s)) z ∙ ap (λ k. take m (drop k s)) e

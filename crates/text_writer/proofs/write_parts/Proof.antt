@@ -1,0 +1,139 @@
+-- `write_parts` meets its contract: each piece over the tail behind those before it. Assumes nothing.
+use Prim.Native.Nat.{_+_, _-_, _<_, _≤_}
+use native.Mathlib.Omega.{arith}
+use lib.ListN.{length, set, take}
+use borrow.Rule.Slice.PartMut.{putMid}
+use Rattle.base32.specs.Base32.{encoded}
+use Rattle.base32.proofs.Groups.{part-length, length-encoded}
+use Rattle.dictionary.specs.Rows.{rows as theRows}
+use Rattle.text.specs.Header.{headerChars}
+use Rattle.text_writer.specs.Writing.{zoneChars}
+use Rattle.text_writer.proofs.Fills.{text-length, ahead-long, marked-long, whole, whole-long}
+use borrow.Author.Needs.{needs}
+use Rattle.text_writer.proofs.write_parts.Statement.{statement}
+use Rattle.text_writer.proofs.write_parts.Tie as tie
+
+header-size-requires : tie.Need-header-size-requires
+header-size-requires c κs = search needs
+
+write-header-requires : tie.Need-write-header-requires
+write-header-requires c κs =
+    let s = c .before .before .before .before .before .args in
+    let front = headerChars (s .v) (s .header) in
+    let zone = zoneChars theRows (s .slice .now) (take (s .fields .count) (s .fields .list)) in
+    let all = text-length front zone (encoded (s .signature .now)) in
+    omega (arith, all, c .before .before .before .before .before .pre .3, c .before .header-size .ensures)
+
+sub-write-zone : tie.Need-sub-write-zone
+sub-write-zone c =
+    let s = c .before .before .before .before .before .before .before .before .args in
+    let front = headerChars (s .v) (s .header) in
+    let zone = zoneChars theRows (s .slice .now) (take (s .fields .count) (s .fields .list)) in
+    let all = text-length front zone (encoded (s .signature .now)) in
+    omega (arith, all, c .before .before .before .before .before .before .before .before .pre .3, c .before .before .before .before .header-size .ensures .0, c .before .out .given)
+
+part-write-zone-start : tie.Need-part-write-zone-start
+part-write-zone-start c = sub-write-zone c
+
+part-write-zone-end : tie.Need-part-write-zone-end
+part-write-zone-end c = search needs
+
+write-zone-requires : tie.Need-write-zone-requires
+write-zone-requires c κs =
+    let s = c .before .before .before .before .before .before .before .before .before .args in
+    let front = headerChars (s .v) (s .header) in
+    let zone = zoneChars theRows (s .slice .now) (take (s .fields .count) (s .fields .list)) in
+    let all = text-length front zone (encoded (s .signature .now)) in
+    (c .before .before .before .before .before .before .before .before .before .pre .0, c .before .before .before .before .before .before .before .before .before .pre .1, omega (arith, all, c .before .before .before .before .before .before .before .before .before .pre .3, c .before .before .before .before .before .header-size .ensures .0, c .before .before .out .given, part-length (c .before .before .before .write-header .last .1 .1 .0) (c .before .before .before .before .before .header-size .result)))
+
+add-m : tie.Need-add-m
+add-m c =
+    let s = c .before .before .before .before .before .before .before .before .before .before .before .before .args in
+    let front = headerChars (s .v) (s .header) in
+    let zone = zoneChars theRows (s .slice .now) (take (s .fields .count) (s .fields .list)) in
+    let all = text-length front zone (encoded (s .signature .now)) in
+    omega (arith, all, c .before .before .before .before .before .before .before .before .before .before .before .before .pre .3, c .before .before .before .before .before .before .before .before .header-size .ensures .0, c .before .before .write-zone .ensures .0)
+
+slice-write-out : tie.Need-slice-write-out
+slice-write-out c =
+    let s = c .before .before .before .before .before .before .before .before .before .before .before .before .args in
+    let front = headerChars (s .v) (s .header) in
+    let zone = zoneChars theRows (s .slice .now) (take (s .fields .count) (s .fields .list)) in
+    let all = text-length front zone (encoded (s .signature .now)) in
+    let h = c .before .before .before .before .before .before .before .before .header-size .result in
+    let n = c .before .before .write-zone .result in
+    let l = putMid h (length (c .before .before .before .before .before .before .write-header .last .1 .1 .0) - h) (c .before .before .before .before .before .before .write-header .last .1 .1 .0) (c .before .before .write-zone .last .1 .1 .0) in
+    let g : h + n < length l = omega (arith, all, ahead-long front zone (encoded (s .signature .now)) (s .out .now) h n (c .before .before .before .before .before .before .before .before .header-size .ensures .0) (c .before .before .write-zone .ensures .0) (c .before .before .before .before .before .before .before .before .before .before .before .before .pre .3) (c .before .before .before .before .before .before .write-header .last .1 .1 .0) (c .before .before .write-zone .last .1 .1 .0) (c .before .before .before .before .before .before .write-header .ensures) (c .before .before .write-zone .ensures .1), c .before .before .before .before .before .before .before .before .before .before .before .before .pre .3, c .before .before .before .before .before .before .before .before .header-size .ensures .0, c .before .before .write-zone .ensures .0) in g
+
+add-p : tie.Need-add-p
+add-p c = omega (arith, slice-write-out c, c .before .out2 .given)
+
+sub-write-base32 : tie.Need-sub-write-base32
+sub-write-base32 c =
+    let s = c .before .before .before .before .before .before .before .before .before .before .before .before .args in
+    let front = headerChars (s .v) (s .header) in
+    let zone = zoneChars theRows (s .slice .now) (take (s .fields .count) (s .fields .list)) in
+    let all = text-length front zone (encoded (s .signature .now)) in
+    let h = c .before .before .before .before .before .before .before .before .header-size .result in
+    let n = c .before .before .write-zone .result in
+    let l = putMid h (length (c .before .before .before .before .before .before .write-header .last .1 .1 .0) - h) (c .before .before .before .before .before .before .write-header .last .1 .1 .0) (c .before .before .write-zone .last .1 .1 .0) in
+    let g : (h + n) + 1 ≤ length (set l (h + n) 31) = omega (arith, all, marked-long front zone (encoded (s .signature .now)) (s .out .now) h n (c .before .before .before .before .before .before .before .before .header-size .ensures .0) (c .before .before .write-zone .ensures .0) (c .before .before .before .before .before .before .before .before .before .before .before .before .pre .3) (c .before .before .before .before .before .before .write-header .last .1 .1 .0) (c .before .before .write-zone .last .1 .1 .0) (c .before .before .before .before .before .before .write-header .ensures) (c .before .before .write-zone .ensures .1), c .before .before .before .before .before .before .before .before .before .before .before .before .pre .3, c .before .before .before .before .before .before .before .before .header-size .ensures .0, c .before .before .write-zone .ensures .0) in g
+
+part-write-base32-start : tie.Need-part-write-base32-start
+part-write-base32-start c = sub-write-base32 c
+
+part-write-base32-end : tie.Need-part-write-base32-end
+part-write-base32-end c = search needs
+
+write-base32-requires : tie.Need-write-base32-requires
+write-base32-requires c κs =
+    let s = c .before .before .before .before .before .before .before .before .before .before .before .before .before .args in
+    let front = headerChars (s .v) (s .header) in
+    let zone = zoneChars theRows (s .slice .now) (take (s .fields .count) (s .fields .list)) in
+    let all = text-length front zone (encoded (s .signature .now)) in
+    let h = c .before .before .before .before .before .before .before .before .before .header-size .result in
+    let n = c .before .before .before .write-zone .result in
+    let l = putMid h (length (c .before .before .before .before .before .before .before .write-header .last .1 .1 .0) - h) (c .before .before .before .before .before .before .before .write-header .last .1 .1 .0) (c .before .before .before .write-zone .last .1 .1 .0) in
+    (c .before .before .before .before .before .before .before .before .before .before .before .before .before .pre .2, omega (arith, all, marked-long front zone (encoded (s .signature .now)) (s .out .now) h n (c .before .before .before .before .before .before .before .before .before .header-size .ensures .0) (c .before .before .before .write-zone .ensures .0) (c .before .before .before .before .before .before .before .before .before .before .before .before .before .pre .3) (c .before .before .before .before .before .before .before .write-header .last .1 .1 .0) (c .before .before .before .write-zone .last .1 .1 .0) (c .before .before .before .before .before .before .before .write-header .ensures) (c .before .before .before .write-zone .ensures .1), part-length (set l (h + n) 31) ((h + n) + 1), length-encoded (s .signature .now), c .before .before .before .before .before .before .before .before .before .before .before .before .before .pre .3, c .before .before .before .before .before .before .before .before .before .header-size .ensures .0, c .before .before .before .write-zone .ensures .0))
+
+same-length : tie.Need-same-length
+same-length c =
+    let s = c .before .before .before .before .before .before .before .before .before .before .before .before .before .before .before .before .args in
+    let front = headerChars (s .v) (s .header) in
+    let zone = zoneChars theRows (s .slice .now) (take (s .fields .count) (s .fields .list)) in
+    let all = text-length front zone (encoded (s .signature .now)) in
+    let h = c .before .before .before .before .before .before .before .before .before .before .before .before .header-size .result in
+    let n = c .before .before .before .before .before .before .write-zone .result in
+    let l = putMid h (length (c .before .before .before .before .before .before .before .before .before .before .write-header .last .1 .1 .0) - h) (c .before .before .before .before .before .before .before .before .before .before .write-header .last .1 .1 .0) (c .before .before .before .before .before .before .write-zone .last .1 .1 .0) in
+    whole-long front zone (encoded (s .signature .now)) (s .out .now) h n (c .before .before .before .before .before .before .before .before .before .before .before .before .header-size .ensures .0) (c .before .before .before .before .before .before .write-zone .ensures .0) (c .before .before .before .before .before .before .before .before .before .before .before .before .before .before .before .before .pre .3) (c .before .before .before .before .before .before .before .before .before .before .write-header .last .1 .1 .0) (c .before .before .before .before .before .before .write-zone .last .1 .1 .0) (c .before .before .before .before .before .before .before .before .before .before .write-header .ensures) (c .before .before .before .before .before .before .write-zone .ensures .1) (c .before .before .write-base32 .last .1 .0) (c .before .before .write-base32 .ensures)
+
+returns : tie.Need-returns
+returns c =
+    let s = c .before .before .before .before .before .before .before .before .before .before .before .before .before .before .before .before .args in
+    let front = headerChars (s .v) (s .header) in
+    let zone = zoneChars theRows (s .slice .now) (take (s .fields .count) (s .fields .list)) in
+    let all = text-length front zone (encoded (s .signature .now)) in
+    let h = c .before .before .before .before .before .before .before .before .before .before .before .before .header-size .result in
+    let n = c .before .before .before .before .before .before .write-zone .result in
+    let l = putMid h (length (c .before .before .before .before .before .before .before .before .before .before .write-header .last .1 .1 .0) - h) (c .before .before .before .before .before .before .before .before .before .before .write-header .last .1 .1 .0) (c .before .before .before .before .before .before .write-zone .last .1 .1 .0) in
+    whole front zone (encoded (s .signature .now)) (s .out .now) h n (c .before .before .before .before .before .before .before .before .before .before .before .before .header-size .ensures .0) (c .before .before .before .before .before .before .write-zone .ensures .0) (c .before .before .before .before .before .before .before .before .before .before .before .before .before .before .before .before .pre .3) (c .before .before .before .before .before .before .before .before .before .before .write-header .last .1 .1 .0) (c .before .before .before .before .before .before .write-zone .last .1 .1 .0) (c .before .before .before .before .before .before .before .before .before .before .write-header .ensures) (c .before .before .before .before .before .before .write-zone .ensures .1) (c .before .before .write-base32 .last .1 .0) (c .before .before .write-base32 .ensures)
+
+pub write-parts-spec : {M : Type 1} → statement M
+write-parts-spec =
+    tie.close
+    (tie.spec
+    header-size-requires
+    write-header-requires
+    sub-write-zone
+    part-write-zone-start
+    part-write-zone-end
+    write-zone-requires
+    add-m
+    slice-write-out
+    add-p
+    sub-write-base32
+    part-write-base32-start
+    part-write-base32-end
+    write-base32-requires
+    same-length
+    returns)
