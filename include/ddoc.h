@@ -1,4 +1,5 @@
-/* The C interface of the library: the data codewords of a symbol are read into text, and a message's fields are held against the table of its type.
+/* The C interface of the library: the data codewords of a symbol are read into text, and the fields of a message are held
+ * against the table of its type.
  * Nothing is kept between two calls and nothing is shared, so calls may run in several threads at once,
  * as long as each has its own text. All memory is the caller's; the library needs memcpy and memset only. */
 #ifndef DDOC_H
@@ -33,9 +34,9 @@ typedef struct {
  * Refused: every byte is untouched. The codewords and the text must not overlap. */
 ddoc_answer ddoc_read_symbol(const uint8_t *codewords, size_t count, uint8_t *text, size_t room);
 
-/* Do `count` fields, however many, conform to the table of the type whose two characters are given? Only their rows are looked at.
- * Refused: 28 for a type that is not covered; 29 for an identifier that is missing, place: the least such row; 30 for one that is
- * not permitted, place: the first such field. The first of these counts. Accepted: every number is 0. */
+/* Holds `count` fields, any number of them, against the table of the type whose two characters are given. Only their rows count.
+ * Refused: 28 for a type that is not covered; 29 for an identifier that is missing, place: the least such row; 30 for one that
+ * is not permitted, place: the first such field; tried in this order. Accepted: every number is 0. */
 ddoc_answer ddoc_conformity(uint8_t type0, uint8_t type1, const ddoc_field *fields, size_t count);
 
 #ifdef __cplusplus

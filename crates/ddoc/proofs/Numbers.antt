@@ -1,12 +1,17 @@
--- The answers of the layers below, turned into numbers, are what the definitions of this crate say.
+-- The answers of the layers below, turned into numbers, are what the definitions of this crate say; and the promise on conformity leaves one answer.
 -- Assumes nothing.
-use mathlib.Core.Path.{_≡_, refl}
+use mathlib.Core.Path.{_≡_, refl, sym, _∙_}
+use mathlib.Core.List.{List}
+use Prim.Native.Nat.{ℕ}
 use Rattle.codeword.specs.Reading.{Reading, good, refused}
 use Rattle.symbol_reader.specs.declared.SymbolRead.{SymbolRead}
 use Rattle.symbol_reader.specs.declared.SymbolRead.the-variants.{Text, Refused}
 use Rattle.symbol_reader.specs.Answers.{answered}
+use Rattle.dictionary.specs.declared.Field.{Field}
+use Rattle.conformity.specs.Conformity.{conforms}
+use Rattle.conformity.specs.Noted.{answered as as-enum}
 use Rattle.ddoc.specs.declared.Answer.{Answer}
-use Rattle.ddoc.specs.Answers.{readingAnswer}
+use Rattle.ddoc.specs.Answers.{readingAnswer, conformityAnswer}
 
 abbrev pub numbers : SymbolRead → Answer
 numbers (Text n used) = record { number = 0; place = 0; length = n; used = used }
@@ -15,3 +20,10 @@ numbers (Refused r) = record { number = r .number; place = r .place; length = 0;
 pub numbers-are : (o : Reading) → numbers (answered o) ≡ readingAnswer o
 numbers-are (good t n b) = refl
 numbers-are (refused k p) = refl
+
+-- what `ddoc_conformity` promises
+abbrev pub Checked : (type0 type1 : ℕ) → List Field → Answer → Type 0
+Checked a b l r = r ≡ conformityAnswer (as-enum (conforms a b l))
+
+pub only-one : (a b : ℕ) (l : List Field) (r r′ : Answer) → Checked a b l r → Checked a b l r′ → r ≡ r′
+only-one a b l r r′ p q = p ∙ sym q

@@ -1,10 +1,11 @@
 -- The list after i stores, and one store more.
-use mathlib.Core.Path.{_≡_, refl, sym, _∙_, ap}
-use Prim.Native.Nat.{ℕ, suc, _+_, _-_, _<_, _≤_}
+-- Assumes nothing.
+use mathlib.Core.Path.{_≡_, sym, _∙_}
+use Prim.Native.Nat.{ℕ, suc, _-_, _<_, _≤_}
 use native.Mathlib.Omega.{arith}
-use mathlib.Core.List.{List, [], _∷_, _++_, append-assoc}
+use mathlib.Core.List.{List, [], _∷_, append-assoc}
 use lib.ListN.{length, set, take, drop, getD, length-append, length-drop}
-use lib.Seq.{length-take-le, take-suc, drop-cons, set-at, append-snoc}
+use lib.Seq.{length-take-le, take-suc, drop-cons, set-at}
 use Rattle.dictionary.specs.declared.Field.{Field}
 use Rattle.records.specs.Lists.{noField, pasted}
 

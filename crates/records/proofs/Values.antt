@@ -1,4 +1,4 @@
--- The machine value of a record, of a message's fields and of what is kept of them, and what whoever holds one knows.
+-- The value in MIR of a record, of a message's fields and of what is kept of them, and what whoever holds one knows.
 -- Assumes nothing.
 use mathlib.Core.Path.{_≡_, sym, _∙_, subst}
 use Prim.Native.Nat.{_<_, _^_}

@@ -4,13 +4,13 @@ use conformity::Conformity;
 use dictionary::Field;
 use dictionary::Fields;
 ghost use mathlib.Core.Path.{_≡_};
-ghost use Prim.Native.Nat.{_<_, _≤_};
-ghost use Prim.Native.Nat.{min};
-ghost use lib.ListN.{length, getD, set};
+ghost use Prim.Native.Nat.{_<_, _≤_, min};
+ghost use lib.ListN.{length, getD};
 ghost use Rattle.conformity.specs.Conformity.{conforms};
 ghost use Rattle.conformity.specs.Noted.{answered};
-ghost use Rattle.records.specs.Lists.{noField, noFields, pasted, byValue, withRecord};
+ghost use Rattle.records.specs.Lists.{noField, noFields, pasted, withRecord, byValue};
 
+// The record at i, if it counts or not.
 fn record_at(f: Fields, i: usize) -> Field
     requires { ⌜ i < 64 ⌝ }
     ensures { λ r. ⌜ r ≡ getD (f .list) i noField ⌝ }
@@ -39,11 +39,11 @@ pub fn conforms_list(type0: u8, type1: u8, list: &[Field]) -> Conformity
 {
     let n = list.len();
     let mut s = conformity::begin(type0, type1);
-    let mut i = 0;
-    while i < n {
-        let x = list[i];
-        s = conformity::note(s, i, x);
-        i += 1;
+    let mut place = 0;
+    while place < n {
+        let x = list[place];
+        s = conformity::note(s, place, x);
+        place += 1;
     }
     conformity::decide(s)
 }
@@ -91,11 +91,11 @@ pub fn take_fields(list: &[Field]) -> Fields
     let n = list.len();
     let end = at_most_64(n);
     let mut f = no_fields(n);
-    let mut i = 0;
-    while i < end {
-        let x = list[i];
-        f = with_record(f, i, x);
-        i += 1;
+    let mut at = 0;
+    while at < end {
+        let x = list[at];
+        f = with_record(f, at, x);
+        at += 1;
     }
     f
 }
