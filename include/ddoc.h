@@ -1,7 +1,7 @@
-/* The C interface of the library: the data codewords of a symbol are read into text, and the fields of a message are held
- * against the table of its type.
+/* The C interface of the library: the data codewords of a symbol are read into text and back, a text into the fields of a
+ * message and back, and the fields of a message are held against the table of its type.
  * Nothing is kept between two calls and nothing is shared, so calls may run in several threads at once,
- * as long as each has its own text. All memory is the caller's; the library needs memcpy and memset only. */
+ * as long as each has its own output. All memory is the caller's; the library needs memcpy and memset only. */
 #ifndef DDOC_H
 #define DDOC_H
 
@@ -16,27 +16,78 @@ extern "C" {
 /* What comes back. number 0: accepted. Any other number is a refusal of document 01, "Numbers that come back". */
 typedef struct {
     size_t number; /* 0, or the refusal's number */
-    size_t place;  /* refused: the index of the codeword or of the field, from 0, or the row, as document 01 says; accepted: 0 */
-    size_t length; /* a text that was accepted: its characters; else 0 */
-    size_t used;   /* a symbol that was accepted: codewords before the first pad, all of them if there is no pad; else 0 */
+    size_t place;  /* refused: an index from 0 into the input, the record's, or the row, as document 01 says; else 0 */
+    size_t length; /* accepted: characters of text, or codewords of a symbol written; 0 for conformity; refused: 0 */
+    size_t used;   /* symbol accepted: codewords before the first pad, all of them if there is no pad; else 0 */
 } ddoc_answer;
 
-/* A field of a message, 12 bytes. */
+/* A field: a row of the dictionary, and where its data stand in a slice. 12 bytes. */
 typedef struct {
-    uint16_t row;    /* the row of its identifier, from 0 by rising identifier */
-    bool cut;        /* its data are cut short. Only 0 or 1 may stand in this byte */
-    uint32_t start;  /* where its data start in a slice */
-    uint32_t length; /* and how long they are */
+    uint16_t row;    /* 0 to 109, by rising identifier: docs/ROWS.md */
+    bool cut;        /* the data are cut short. Only 0 or 1 may stand in this byte */
+    uint32_t start;  /* index of the data's first character */
+    uint32_t length; /* characters of data */
 } ddoc_field;
+
+/* The header's parts, characters as they stand in the text. Version 02 has no perimeter, 02 and 03 have no country:
+ * these are zero after reading, and not looked at in writing. 20 bytes. */
+typedef struct {
+    uint8_t version[2]; /* 02, 03 or 04 */
+    uint8_t authority[4];
+    uint8_t certificate[4];
+    uint16_t issue_day; /* days since 1 January 2000 */
+    uint16_t signing_day;
+    uint8_t type[2];
+    uint8_t perimeter[2]; /* 01 */
+    uint8_t country[2];
+} ddoc_header;
+
+/* What comes back from reading a text. Refused: all but number and place is zero. */
+typedef struct {
+    size_t number;
+    size_t place;            /* refused: an index from 0 into the text; accepted: 0 */
+    size_t fields;           /* records in the lent list, at most 64 */
+    size_t signature_length; /* 64, 96 or 132 */
+    size_t signed_length;    /* the signed part: so many characters from the text's beginning, up to the mark 31 */
+    ddoc_header header;
+    uint8_t signature[132]; /* zero behind its length */
+} ddoc_message;
 
 /* Reads `count` codewords into the lent `text`, which has `room` bytes. Less than 1,000 is refused with 6.
  * Accepted: the first `length` bytes are the text, with no zero byte behind it; the others are untouched.
  * Refused: every byte is untouched. The codewords and the text must not overlap. */
 ddoc_answer ddoc_read_symbol(const uint8_t *codewords, size_t count, uint8_t *text, size_t room);
 
-/* Holds `count` fields, any number of them, against the table of the type whose two characters are given. Only their rows count.
- * Refused: 28 for a type that is not covered; 29 for an identifier that is missing, place: the least such row; 30 for one that
- * is not permitted, place: the first such field; tried in this order. Accepted: every number is 0. */
+/* The entries that the work slice of ddoc_write_symbol needs, and the codewords of the largest symbol. */
+enum { DDOC_WORK = 8192, DDOC_LARGEST = 1558 };
+
+/* Writes `length` characters into the smallest symbol that holds them, of at most `largest` data codewords, which has to be
+ * the capacity of a square size. The symbol is padded: its `length` codewords, `used` of them before the padding, stand in
+ * the first bytes of the lent `symbol`, which has `room` bytes; 1,558 always do, and 1,050 as a text has at most 1,000 characters.
+ * Refused, in this order: 5 more than 1,000 characters; 7 a character above 127, at its place; 8 `largest` is no capacity;
+ * 6 `work_room` is less than 8,192; 9 no permitted size fits; 6 `room` is less than the symbol chosen.
+ * Accepted: the bytes behind the symbol are untouched. Refused: every byte is untouched.
+ * The lent `work` slice may hold anything. Its first 8,192 entries are zero afterwards and the others untouched; when it is
+ * too short, or the refusal is 5, 7 or 8, all of it is untouched. Text, work slice and symbol must not overlap. */
+ddoc_answer ddoc_write_symbol(const uint8_t *text, size_t length, size_t largest, uint16_t *work, size_t work_room, uint8_t *symbol,
+                              size_t room);
+
+/* Reads a text of `length` characters into the lent list `fields`, which has `room` records. Less than 64 is refused
+ * with 6. Accepted: the first records of the list, as many as the answer's `fields`, are the fields in the order of
+ * the text, with starts that count from the text's beginning; the others are untouched. Refused: all are untouched. */
+ddoc_message ddoc_read_text(const uint8_t *text, size_t length, ddoc_field *fields, size_t room);
+
+/* Writes the message of a header, `count` records, the data that they point into, and a signature into the lent `out`,
+ * which has `room` bytes. Records may overlap; the data and the signature must not overlap the output.
+ * Accepted: the first `length` bytes are the text, the others are untouched. Refused: every byte is untouched. */
+ddoc_answer ddoc_write_text(ddoc_header header, const ddoc_field *fields, size_t count, const uint8_t *data,
+                            size_t data_length, const uint8_t *signature, size_t signature_length, uint8_t *out,
+                            size_t room);
+
+/* Do `count` fields, however many, conform to the table of the type whose two characters are given? Only their rows
+ * are looked at. Refused: 28 for a type that is not covered; 29 for an identifier that is missing, place: the least
+ * such row; 30 for one that is not permitted, place: the first such field. The first of these counts.
+ * Accepted: every number is 0. */
 ddoc_answer ddoc_conformity(uint8_t type0, uint8_t type1, const ddoc_field *fields, size_t count);
 
 #ifdef __cplusplus

@@ -1,44 +1,16 @@
-// Times the library beside libdmtx and zxing-cpp on the same symbols, in one run: 40 texts like those
-// of 2D-DOC, mainly in C40, and 40 short mixed ones. Nothing is asserted about a time.
+// Times the library beside others on the same texts, in one run. Reading, beside libdmtx and zxing-cpp: 40 texts
+// like those of 2D-DOC, mainly in C40, and 40 short mixed ones. Writing, beside three encoders: 200 of each.
+// Nothing is asserted about a time, and times under an emulator say nothing about a real processor.
 #include "../../include/ddoc.h"
 #include "decoders.hpp"
+#include "encoders.hpp"
+#include "texts.hpp"
 #include <algorithm>
 #include <chrono>
 #include <cstdio>
 #include <cstdlib>
-#include <random>
 
 namespace {
-
-using Random = std::mt19937_64;
-const std::string digits = "0123456789", capitals = "ABCDEFGHIJKLMNOPQRSTUVWXYZ", separator = "\x1d";
-
-std::string some(Random &random, const std::string &of, size_t n)
-{
-    std::string s;
-    while (n--) s += of[random() % of.size()];
-    return s;
-}
-
-// Header, fields of capitals, digits and few separators, the mark 31, a signature in Base32: 180 to
-// 390 characters.
-std::string document(Random &random)
-{
-    std::string text = "DC04FR000001" + some(random, "0123456789ABCDEF", 8) + "0101FR";
-    for (size_t most = 76 + random() % 184; text.size() < most;) {
-        text += some(random, capitals + digits, 2) + some(random, capitals, 3 + random() % 12);
-        text += random() % 2 ? separator : some(random, digits, 4 + random() % 9);
-    }
-    return text + "\x1f" + some(random, capitals + "234567", 103);
-}
-
-std::string mixed(Random &random)
-{
-    const std::string pools[] = {digits, capitals + " ", capitals + digits, "abcdefghijklmnopqrstuvwxyz ", "!\"#$%&'()*+,-./:;<=>?@[]_", separator};
-    std::string text;
-    for (size_t most = 1 + random() % 60; text.size() < most;) text += some(random, pools[random() % 6], 1 + random() % 12);
-    return text;
-}
 
 // The C40 values of a character: one in the basic set, else a shift and one in its set.
 std::vector<int> values(int c)
@@ -189,6 +161,61 @@ void table(const char *name, const Totals &t)
         printf("  ratio ddoc/%s: %.2f\n", decoders[i]->name, t.ddoc.least / (t.full[i].least - t.empty[i].least));
 }
 
+// ---- writing
+
+const Encoder *const encoders[] = {&zxing_encoder, &zint_fast, &zint_minimal, &dmtx_c40};
+const int peers = sizeof encoders / sizeof encoders[0], writing_rounds = 11;
+
+double library_seconds(const std::string &text)
+{
+    using Clock = std::chrono::steady_clock;
+    static uint16_t work[DDOC_WORK];
+    uint8_t symbol[DDOC_LARGEST];
+    auto start = Clock::now();
+    ddoc_answer a = ddoc_write_symbol(reinterpret_cast<const uint8_t *>(text.data()), text.size(), DDOC_LARGEST, work, DDOC_WORK, symbol, sizeof symbol);
+    double took = std::chrono::duration<double>(Clock::now() - start).count();
+    if (a.number) {
+        fprintf(stderr, "a text is not written\n");
+        exit(1);
+    }
+    return took;
+}
+
+// For each text the least of the rounds, each in turn, then the mean over the texts.
+void writing_table(const char *name, const std::vector<std::string> &texts)
+{
+    double least[peers + 1] = {};
+    size_t characters = 0;
+    for (const std::string &text : texts) {
+        double best[peers + 1];
+        std::fill(best, best + peers + 1, 1);
+        for (int r = 0; r < writing_rounds; r++) {
+            best[peers] = std::min(best[peers], library_seconds(text));
+            for (int e = 0; e < peers; e++) best[e] = std::min(best[e], encoders[e]->seconds(text));
+        }
+        for (int e = 0; e <= peers; e++) least[e] += best[e];
+        characters += text.size();
+    }
+    printf("\nwriting, %s: %zu texts, %.1f characters on average\n", name, texts.size(), double(characters) / texts.size());
+    printf("  %-26s %-16s %10s %10s\n", "", "makes", "us/text", "ratio");
+    printf("  %-26s %-16s %10.2f\n", "ddoc_write_symbol", "codewords", least[peers] / texts.size() * 1e6);
+    for (int e = 0; e < peers; e++)
+        printf("  %-26s %-16s %10.2f %10.2f\n", encoders[e]->name, encoders[e]->level, least[e] / texts.size() * 1e6, least[peers] / least[e]);
+}
+
+void bench_writing()
+{
+    printf("\nWriting: for each text the least of %d rounds, all in turn. Ratio: ddoc_write_symbol's time to the other's.\n", writing_rounds);
+    printf("Only zxing-cpp's figure is for codewords alone; the others also make check words and modules, libdmtx a picture.\n");
+    printf("Under an emulator the ratios are not those of a real processor: it slows floating point and memory calls most.\n");
+    Random random(20240818);
+    std::vector<std::string> documents, mixes;
+    for (int i = 0; i < 200; i++) documents.push_back(document(random));
+    for (int i = 0; i < 200; i++) mixes.push_back(mixed(random, i % 2 ? 60 : 250));
+    writing_table("texts like 2D-DOC", documents);
+    writing_table("mixed texts", mixes);
+}
+
 }  // namespace
 
 int main()
@@ -206,11 +233,12 @@ int main()
         measure(text, fitted(words), documents);
     }
     for (int i = 0; i < 40; i++) {
-        std::string text = mixed(random);
+        std::string text = mixed(random, 60);
         Codewords words;
         by_runs(words, text);
         measure(text, fitted(words), shorts);
     }
     table("texts like 2D-DOC", documents);
     table("short mixed texts", shorts);
+    bench_writing();
 }

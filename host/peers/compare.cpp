@@ -1,13 +1,14 @@
-// Compares the library with two independent decoders: symbols that the library accepts are drawn
-// whole, read by libdmtx and by zxing-cpp, and their texts compared with the library's.
+// Compares the library with two independent decoders: symbols that the library accepts, and symbols
+// that it writes, are drawn whole, read by libdmtx and by zxing-cpp, and the texts compared.
 //     compare [SEED]
 #include "../../include/ddoc.h"
 #include "decoders.hpp"
+#include "texts.hpp"
+#include <algorithm>
 #include <bitset>
 #include <chrono>
 #include <cstdio>
 #include <cstdlib>
-#include <random>
 
 namespace {
 
@@ -304,6 +305,71 @@ void sample_group(const char *name, bool picture)
     report(g);
 }
 
+// ---- symbols that the library writes
+
+struct Written {
+    ddoc_answer answer;
+    Codewords words;
+};
+
+Written write(const std::string &text)
+{
+    static uint16_t work[DDOC_WORK];
+    Codewords room(DDOC_LARGEST);
+    Written w{ddoc_write_symbol(reinterpret_cast<const uint8_t *>(text.data()), text.size(), DDOC_LARGEST, work, DDOC_WORK, room.data(), room.size()), {}};
+    w.words.assign(room.begin(), room.begin() + w.answer.length);
+    return w;
+}
+
+// Runs of what the modes treat alike, all 128 characters, or like a document.
+std::string some_text(std::mt19937_64 &random, size_t length)
+{
+    std::string text;
+    const int style = int(random() % 4);
+    while (text.size() < length)
+        if (style == 0) text += char(random() % 128);
+        else text += style == 1 ? document(random) : mixed(random, length);
+    return text.substr(0, length);
+}
+
+int written_sizes[24] = {};
+
+// Both decoders read every one: the library writes no 254 directly behind a latch.
+void written_group(const char *name, int first, int end, int each, bool picture, std::mt19937_64 &random)
+{
+    Group g{name};
+    for (int s = first; s < end; s++)
+        for (int i = 0; i < each; i++) {
+            const std::string text = some_text(random, random() % (std::min(1000, 2 * sizes[s].data) + 1));
+            const Written w = write(text);
+            if (w.answer.number) {
+                g.fault(w.words, text, "writing", "refused " + std::to_string(w.answer.number));
+                continue;
+            }
+            written_sizes[&size_of(w.words.size()) - sizes]++;
+            g.add(w.words, text, picture);
+        }
+    if (g.apart) g.wrong++, printf("%s: %d with an empty C40 part\n", name, g.apart);
+    std::string list;
+    for (int i = 0; i < kinds; i++)
+        if (g.count[i]) list += std::string(", ") + kind_names[i] + " " + std::to_string(g.count[i]);
+    report(g, ", " + std::to_string(g.characters) + " characters" + list);
+}
+
+// 1,000 characters need at most 1,050 codewords: each size up to there has to be met.
+void every_size()
+{
+    Group g{"sizes of written symbols"};
+    std::string list;
+    for (int s = 0; s < 24; s++) {
+        g.symbols += written_sizes[s];
+        if (sizes[s].data > 1050) continue;
+        list += ", " + std::to_string(sizes[s].data) + ": " + std::to_string(written_sizes[s]);
+        if (!written_sizes[s]) g.wrong++, printf("%s: none of %d\n", g.name, sizes[s].data);
+    }
+    report(g, list);
+}
+
 // The two symbols of the known difference: without the exception libdmtx would be wrong. A lone 254 is
 // no part of it.
 void known_difference()
@@ -336,6 +402,10 @@ int main(int count, char **arguments)
     random_group("random by modules, 52x52 to 144x144", 14, 24, 150, false, random);
     random_group("random by picture, 10x10 to 144x144", 0, 24, 10, true, random);
     every_kind();
+    written_group("written, by modules, 10x10 to 48x48", 0, 14, 250, false, random);
+    written_group("written, by modules, 52x52 to 120x120", 14, 22, 60, false, random);
+    written_group("written, by picture, 10x10 to 120x120", 0, 22, 5, true, random);
+    every_size();
     printf("%.1f seconds\n", std::chrono::duration<double>(std::chrono::steady_clock::now() - start).count());
     printf("%d passed, %d failed\n", passed, failed);
     return failed != 0;

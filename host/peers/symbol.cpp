@@ -173,6 +173,20 @@ Matrix draw(const Codewords &data, Checks checks)
     return m;
 }
 
+Codewords data_of(const Matrix &m)
+{
+    const int region = m.size->side / m.size->regions, inner = region - 2;
+    const Placement &p = placement(m.size->side - 2 * m.size->regions);
+    Codewords all(m.size->data + m.size->check);
+    for (int r = 0; r < p.n; r++)
+        for (int c = 0; c < p.n; c++) {
+            const int b = p.bit[r * p.n + c];
+            if (b != Placement::none && m.at(r / inner * region + r % inner + 1, c / inner * region + c % inner + 1)) all[b / 8] |= uint8_t(128 >> b % 8);
+        }
+    all.resize(m.size->data);
+    return all;
+}
+
 void pad(Codewords &words, size_t capacity)
 {
     if (words.size() < capacity) words.push_back(129);

@@ -32,5 +32,8 @@ const Size &size_of(size_t data_codewords);
 Codewords with_check_words(const Codewords &data, Checks checks);
 Matrix draw(const Codewords &data, Checks checks);
 
+// The data codewords of a whole symbol, as its modules have them; nothing is corrected.
+Codewords data_of(const Matrix &m);
+
 // Fills up to the capacity: 129, then the pads of the 253-state rule.
 void pad(Codewords &words, size_t capacity);

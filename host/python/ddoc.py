@@ -1,25 +1,52 @@
 """The library's C interface (include/ddoc.h) for Python, by ctypes.
 
 The shared library is found by the environment variable DDOC_SO, else as target/host/libddoc.so of this repository.
+A function named call_.. is the plain call, which lends memory and shows all of it afterwards; the others raise Refused.
 """
 
 import ctypes
 import os
 import pathlib
+from ctypes import c_bool, c_char_p, c_size_t, c_uint8, c_uint16, c_uint32, c_void_p
 
 ROOT = pathlib.Path(__file__).resolve().parents[2]
+# A lent text has 1,000 bytes or more, a lent list 64 records or more.
+TEXT_ROOM = 1000
+LIST_ROOM = 64
 
 
 class Answer(ctypes.Structure):
     """What comes back: number 0 is acceptance, any other a refusal of document 01."""
 
-    _fields_ = [(name, ctypes.c_size_t) for name in ("number", "place", "length", "used")]
+    _fields_ = [(name, c_size_t) for name in ("number", "place", "length", "used")]
 
 
 class Field(ctypes.Structure):
-    """A field of a message: its row, whether its data are cut, and where they stand in a slice."""
+    """A field's row, whether it is cut, and where its data stand in a slice."""
 
-    _fields_ = [("row", ctypes.c_uint16), ("cut", ctypes.c_bool), ("start", ctypes.c_uint32), ("length", ctypes.c_uint32)]
+    _fields_ = [("row", c_uint16), ("cut", c_bool), ("start", c_uint32), ("length", c_uint32)]
+
+
+class Header(ctypes.Structure):
+    """The header's parts, in the order of the text. Those that the version lacks are zero after reading."""
+
+    _fields_ = [
+        ("version", c_uint8 * 2),
+        ("authority", c_uint8 * 4),
+        ("certificate", c_uint8 * 4),
+        ("issue_day", c_uint16),
+        ("signing_day", c_uint16),
+        ("type", c_uint8 * 2),
+        ("perimeter", c_uint8 * 2),
+        ("country", c_uint8 * 2),
+    ]
+
+
+class Message(ctypes.Structure):
+    """What comes back from reading a text; the records are in the lent list."""
+
+    _fields_ = [(name, c_size_t) for name in ("number", "place", "fields", "signature_length", "signed_length")]
+    _fields_ += [("header", Header), ("signature", c_uint8 * 132)]
 
 
 class Refused(Exception):
@@ -32,60 +59,121 @@ class Refused(Exception):
 
 
 class LibraryMissing(Exception):
-    """The shared library cannot be loaded; the message says how to build it."""
+    """The shared library cannot be loaded, or lacks a function; the message says how to build it."""
 
 
-def load():
-    path = pathlib.Path(os.environ.get("DDOC_SO") or ROOT / "target" / "host" / "libddoc.so")
-    try:
-        library = ctypes.CDLL(str(path.resolve()))
-        library.ddoc_read_symbol.argtypes = [ctypes.c_char_p, ctypes.c_size_t, ctypes.c_void_p, ctypes.c_size_t]
-        library.ddoc_conformity.argtypes = [ctypes.c_uint8, ctypes.c_uint8, ctypes.POINTER(Field), ctypes.c_size_t]
-    except (OSError, AttributeError) as fault:
-        raise LibraryMissing(f"the library cannot be loaded: {fault}\nBuild it with host/build, or name another in DDOC_SO.") from None
-    library.ddoc_read_symbol.restype = Answer
-    library.ddoc_conformity.restype = Answer
-    return library
-
+# Each function's result and arguments.
+FUNCTIONS = {
+    "ddoc_read_symbol": (Answer, [c_char_p, c_size_t, c_void_p, c_size_t]),
+    "ddoc_write_symbol": (Answer, [c_char_p, c_size_t, c_size_t, c_void_p, c_size_t, c_void_p, c_size_t]),
+    "ddoc_read_text": (Message, [c_char_p, c_size_t, c_void_p, c_size_t]),
+    "ddoc_write_text": (
+        Answer,
+        [Header, c_void_p, c_size_t, c_char_p, c_size_t, c_char_p, c_size_t, c_void_p, c_size_t],
+    ),
+    "ddoc_conformity": (Answer, [c_uint8, c_uint8, c_void_p, c_size_t]),
+}
 
 _library = None
 
 
-def loaded():
-    """The library, loaded at the first call."""
+def function(name):
+    """The library's function of that name, loaded at its first use."""
     global _library
-    if _library is None:
-        _library = load()
-    return _library
+    path = pathlib.Path(os.environ.get("DDOC_SO") or ROOT / "target" / "host" / "libddoc.so")
+    try:
+        _library = _library or ctypes.CDLL(str(path.resolve()))
+        found = getattr(_library, name)
+    except (OSError, AttributeError) as fault:
+        raise LibraryMissing(f"the library cannot be loaded: {fault}\nBuild it with host/build, or name another in DDOC_SO.") from None
+    found.restype, found.argtypes = FUNCTIONS[name]
+    return found
+
+
+def accepted(answer):
+    if answer.number != 0:
+        raise Refused(answer.number, answer.place)
+
+
+def lend(lent, room):
+    """A copy of the bytes `lent`, of which the first `room` are to be lent."""
+    if room > len(lent):
+        raise ValueError("the room is larger than what is lent")
+    return ctypes.create_string_buffer(bytes(lent), max(len(lent), 1))
 
 
 def call(codewords, lent, room):
-    """The plain call: lends the first `room` bytes of a copy of `lent`; gives the answer and the whole copy afterwards."""
-    if room > len(lent):
-        raise ValueError("the room is larger than what is lent")
-    text = ctypes.create_string_buffer(bytes(lent), max(len(lent), 1))
-    answer = loaded().ddoc_read_symbol(bytes(codewords), len(codewords), text, room)
+    """Reads a symbol into the first `room` bytes of a copy of `lent`: the answer and the whole copy afterwards."""
+    text = lend(lent, room)
+    answer = function("ddoc_read_symbol")(bytes(codewords), len(codewords), text, room)
     return answer, text.raw[: len(lent)]
 
 
-def call_conformity(kind, fields):
-    """The plain call, with the two characters of a type and a list of Field; gives the answer and the list's bytes afterwards."""
-    first, second = kind
-    lent = (Field * len(fields))(*fields)
-    answer = loaded().ddoc_conformity(first, second, lent, len(fields))
-    return answer, bytes(lent)
-
-
-def read_symbol(codewords, room=1000):
+def read_symbol(codewords, room=TEXT_ROOM):
     """The text as bytes, and the count of codewords before the first pad. Raises Refused."""
     answer, text = call(codewords, bytes(room), room)
-    if answer.number != 0:
-        raise Refused(answer.number, answer.place)
+    accepted(answer)
     return text[: answer.length], answer.used
+
+
+def call_write_symbol(text, largest, work, work_room, lent, room):
+    """Writes a symbol, with the first `work_room` sixteen-bit numbers of a copy of the bytes `work` and the first `room` bytes of a
+    copy of `lent`: the answer and both whole copies afterwards."""
+    numbers, symbol = lend(work, 2 * work_room), lend(lent, room)
+    answer = function("ddoc_write_symbol")(bytes(text), len(text), largest, numbers, work_room, symbol, room)
+    return answer, numbers.raw[: len(work)], symbol.raw[: len(lent)]
+
+
+def write_symbol(text, largest=1558):
+    """The codewords of the smallest symbol as bytes, padding included, and their count before the first pad. Raises Refused."""
+    answer, _, symbol = call_write_symbol(text, largest, bytes(2 * 8192), 8192, bytes(1558), 1558)
+    accepted(answer)
+    return symbol[: answer.length], answer.used
+
+
+def call_read_text(text, lent, room):
+    """Reads a text; `lent` are the bytes of records, of which `room` records are lent: the message, the bytes afterwards."""
+    size = ctypes.sizeof(Field)
+    fields = lend(lent, size * room)
+    message = function("ddoc_read_text")(bytes(text), len(text), fields, room)
+    return message, fields.raw[: len(lent)]
+
+
+def read_text(text, room=LIST_ROOM):
+    """The message and its fields, which point into the text. Raises Refused."""
+    message, after = call_read_text(text, bytes(ctypes.sizeof(Field) * room), room)
+    accepted(message)
+    return message, fields_in(after, message.fields)
+
+
+def fields_in(lent, count):
+    return list((Field * count).from_buffer_copy(lent))
+
+
+def call_write_text(header, fields, data, signature, lent, room):
+    """Writes a message whose fields point into `data` into the first `room` bytes of a copy of `lent`."""
+    out = lend(lent, room)
+    answer = function("ddoc_write_text")(
+        header, (Field * len(fields))(*fields), len(fields), bytes(data), len(data), bytes(signature), len(signature), out, room
+    )
+    return answer, out.raw[: len(lent)]
+
+
+def write_text(header, fields, data, signature, room=TEXT_ROOM):
+    """The text as bytes. Raises Refused."""
+    answer, text = call_write_text(header, fields, data, signature, bytes(room), room)
+    accepted(answer)
+    return text[: answer.length]
+
+
+def call_conformity(kind, fields):
+    """Holds fields against a type of two bytes: the answer and the list's bytes afterwards."""
+    first, second = kind
+    lent = (Field * len(fields))(*fields)
+    answer = function("ddoc_conformity")(first, second, lent, len(fields))
+    return answer, bytes(lent)
 
 
 def conformity(kind, fields):
     """Nothing if the fields conform to the table of the type, given as two bytes. Raises Refused."""
-    answer, _ = call_conformity(kind, fields)
-    if answer.number != 0:
-        raise Refused(answer.number, answer.place)
+    accepted(call_conformity(kind, fields)[0])

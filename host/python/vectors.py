@@ -1,10 +1,15 @@
 """Runs stored cases through the library: `vectors.py [FILE..]`, by default the files of host/data. A file is one test.
 
-A file named .jsonl holds a case a line, {"op", "in", "out"}; any other is an array of cases of reading, {"codewords", ..}.
-"op" is "read_symbol", with {"codewords", "lent"} in and {"text_hex"} with or without "before_pad" out; or "conformity", with
-{"type", "records"} in, a record being [row, start, length, cut], and {"conforms"} out. A refusal is {"refused", "place"}.
+A file named .jsonl holds a case a line, {"op", "in", "out"}; any other holds arrays by kind, of cases of reading, {"codewords", ..},
+and of writing a symbol, {"text_hex", ..}, with what has to come back beside it.
+"op" is "read_symbol", with {"codewords", "lent"} in and {"text_hex"} with or without "before_pad" out; "write_symbol", with
+{"text_hex", "max_capacity", "work_len", "out_len"} in and {"symbol", "before_pad", "work"} out; "read_text", with
+{"text_hex", "fields_len"} in and {"header", "records", "signed", "signature_hex"} out, a record being [row, start, length, cut];
+"write_text", with {"header", "records", "slice_hex", "signature_hex", "out_len"} in and {"text_hex"} out; or "conformity", with
+{"type", "records"} in and {"conforms"} out. A refusal is {"refused", "place"}.
 """
 
+import ctypes
 import json
 import pathlib
 import random
@@ -13,8 +18,10 @@ import sys
 import ddoc
 
 DATA = pathlib.Path(__file__).resolve().parents[1] / "data"
-STORED = ["read_symbol.jsonl", "reading_corners.json", "conformity.jsonl"]
-GUARD = 64
+STORED = ["read_symbol.jsonl", "write_symbol.jsonl", "tricky.json", "read_text.jsonl", "write_text.jsonl", "conformity.jsonl"]
+# Bytes behind what is lent that nobody may touch: five records.
+GUARD = 60
+RECORD = ctypes.sizeof(ddoc.Field)
 
 
 class BadFile(Exception):
@@ -37,9 +44,32 @@ def differences(answer, right):
     """Which numbers of the answer are wrong, in words."""
     return [
         f"{name} is {getattr(answer, name)}, should be {right[name]}"
-        for name in ("number", "place", "length", "used")
-        if name in right and getattr(answer, name) != right[name]
+        for name in right
+        if getattr(answer, name) != right[name]
     ]
+
+
+def text_differences(text, after, lent):
+    """The text has to stand at the beginning of the lent bytes, and what was lent behind it."""
+    found = []
+    if after[: len(text)] != text:
+        found.append(f"text is {after[:len(text)].hex()}, should be {text.hex()}")
+    if after[len(text) :] != lent[len(text) :]:
+        found.append("the lent bytes behind the text were touched" if text else "the lent bytes were touched")
+    return found
+
+
+def fields_of(records):
+    return [ddoc.Field(row, cut, start, length) for row, start, length, cut in records]
+
+
+def header_of(parts):
+    """The header with these parts; those that are not given are zero."""
+    header = ddoc.Header(issue_day=parts["issue"], signing_day=parts["signing"])
+    for name in ("version", "authority", "certificate", "type", "perimeter", "country"):
+        value = parts.get(name, "").encode("latin-1")
+        getattr(header, name)[: len(value)] = list(value)
+    return header
 
 
 class Reading:
@@ -64,13 +94,99 @@ class Reading:
         """What is wrong with the library's answer, in words; none if it is right."""
         lent = dice.randbytes(self.room + GUARD)
         answer, after = ddoc.call(self.codewords, lent, self.room)
-        found = differences(answer, self.right)
-        text = self.text
-        if after[: len(text)] != text:
-            found.append(f"text is {after[:len(text)].hex()}, should be {text.hex()}")
-        if after[len(text) :] != lent[len(text) :]:
-            found.append("the lent bytes behind the text were touched" if text else "the lent bytes were touched")
+        return differences(answer, self.right) + text_differences(self.text, after, lent)
+
+
+class Writing:
+    """A case of writing a text into a symbol."""
+
+    def __init__(self, given, out):
+        self.text = bytes.fromhex(given["text_hex"])
+        self.largest = int(given.get("max_capacity", 1558))
+        self.work_room = int(given.get("work_len", 8192))
+        self.room = int(given.get("out_len", 1558))
+        self.zeroed = {"zeroed": 8192, "untouched": 0}[out.get("work", "zeroed")]
+        if "refused" in out:
+            self.symbol, self.right = b"", refusal(out)
+            return
+        self.symbol = bytes(list(out["symbol"]))
+        self.right = {"number": 0, "place": 0, "length": len(self.symbol), "used": out["before_pad"]}
+
+    def __str__(self):
+        return f"text {self.text}, largest {self.largest}, work slice {self.work_room}, room {self.room}"
+
+    def faults(self, dice):
+        """What is wrong with the library's answer, in words; none if it is right."""
+        lent, work = dice.randbytes(self.room + GUARD), dice.randbytes(2 * (self.work_room + GUARD))
+        answer, work_after, after = ddoc.call_write_symbol(self.text, self.largest, work, self.work_room, lent, self.room)
+        found = differences(answer, self.right) + text_differences(self.symbol, after, lent)
+        if any(work_after[: 2 * self.zeroed]):
+            found.append("the work slice's first 8,192 entries are not zero")
+        if work_after[2 * self.zeroed :] != work[2 * self.zeroed :]:
+            found.append("entries of the work slice were touched")
         return found
+
+
+class TextReading:
+    """A case of reading a text into a message and a lent list of records."""
+
+    def __init__(self, given, out):
+        self.text = bytes.fromhex(given["text_hex"])
+        self.room = int(given["fields_len"])
+        if "refused" in out:
+            self.fields, self.header, self.signature = [], ddoc.Header(), b""
+            self.right = {"number": out["refused"], "place": out["place"], "signed_length": 0}
+        else:
+            self.fields, self.header = fields_of(out["records"]), header_of(out["header"])
+            self.signature = bytes.fromhex(out["signature_hex"])
+            self.right = {"number": 0, "place": 0, "signed_length": out["signed"]}
+        self.right |= {"fields": len(self.fields), "signature_length": len(self.signature)}
+
+    def __str__(self):
+        return f"text {self.text}, room {self.room}"
+
+    def faults(self, dice):
+        """What is wrong with the library's answer, in words; none if it is right."""
+        lent = bytearray(dice.randbytes(RECORD * self.room + GUARD))
+        # A cut mark is 0 or 1.
+        lent[2::RECORD] = [mark & 1 for mark in lent[2::RECORD]]
+        message, after = ddoc.call_read_text(self.text, lent, self.room)
+        found = differences(message, self.right)
+        if bytes(message.header) != bytes(self.header):
+            found.append(f"header is {bytes(message.header).hex()}, should be {bytes(self.header).hex()}")
+        if bytes(message.signature) != self.signature.ljust(len(message.signature), b"\0"):
+            found.append(f"signature is {bytes(message.signature).hex()}, should be {self.signature.hex()} and zeros")
+        for at, (field, right) in enumerate(zip(ddoc.fields_in(after, len(self.fields)), self.fields)):
+            parts = {name: getattr(right, name) for name, _ in right._fields_}
+            found += [f"record {at}: {fault}" for fault in differences(field, parts)]
+        behind = RECORD * len(self.fields)
+        if after[behind:] != lent[behind:]:
+            found.append("the lent list was touched behind the last record")
+        return found
+
+
+class TextWriting:
+    """A case of writing a message into a lent output."""
+
+    def __init__(self, given, out):
+        self.header, self.fields = header_of(given["header"]), fields_of(given["records"])
+        self.data, self.signature = bytes.fromhex(given["slice_hex"]), bytes.fromhex(given["signature_hex"])
+        self.room = int(given["out_len"])
+        if "refused" in out:
+            self.text, self.right = b"", refusal(out)
+        else:
+            self.text = bytes.fromhex(out["text_hex"])
+            self.right = {"number": 0, "place": 0, "length": len(self.text), "used": 0}
+
+    def __str__(self):
+        records = [(field.row, field.start, field.length, field.cut) for field in self.fields]
+        return f"header {bytes(self.header)}, records {records}, data {self.data}, signature {self.signature.hex()}, room {self.room}"
+
+    def faults(self, dice):
+        """What is wrong with the library's answer, in words; none if it is right."""
+        lent = dice.randbytes(self.room + GUARD)
+        answer, after = ddoc.call_write_text(self.header, self.fields, self.data, self.signature, lent, self.room)
+        return differences(answer, self.right) + text_differences(self.text, after, lent)
 
 
 class Conformity:
@@ -80,7 +196,7 @@ class Conformity:
         self.kind = given["type"].encode("ascii")
         if len(self.kind) != 2:
             raise ValueError("a type has two characters")
-        self.fields = [ddoc.Field(row, cut, start, length) for row, start, length, cut in given["records"]]
+        self.fields = fields_of(given["records"])
         if "refused" in out:
             self.right = refusal(out)
             return
@@ -100,13 +216,13 @@ class Conformity:
         return found
 
 
-OPERATIONS = {"read_symbol": Reading, "conformity": Conformity}
+OPERATIONS = {"read_symbol": Reading, "write_symbol": Writing, "read_text": TextReading, "write_text": TextWriting, "conformity": Conformity}
 
 
 def case_of(entry, where):
     try:
         if "in" not in entry:
-            return Reading(entry, entry)
+            return (Reading if "codewords" in entry else Writing)(entry, entry)
         return OPERATIONS[entry["op"]](entry["in"], entry["out"])
     except (KeyError, TypeError, ValueError, AttributeError) as fault:
         raise BadFile(f"{where}: not a case: {type(fault).__name__} {fault}") from None
@@ -121,10 +237,10 @@ def cases(path):
         lines = [(f"{path}, line {at}", line) for at, line in enumerate(words.splitlines(), 1) if line.strip()]
         entries = [(where, parse(line, where)) for where, line in lines]
     else:
-        array = parse(words, path) if words.strip() else []
-        if not isinstance(array, list):
-            raise BadFile(f"{path}: not an array of cases")
-        entries = [(f"{path}, case {at}", entry) for at, entry in enumerate(array, 1)]
+        kinds = parse(words, path) if words.strip() else {}
+        if not isinstance(kinds, dict) or not all(isinstance(array, list) for array in kinds.values()):
+            raise BadFile(f"{path}: not arrays of cases by kind")
+        entries = [(f"{path}, {kind}, case {at}", entry) for kind, array in kinds.items() for at, entry in enumerate(array, 1)]
     if not entries:
         raise BadFile(f"{path}: no cases in it")
     return [(where, case_of(entry, where)) for where, entry in entries]

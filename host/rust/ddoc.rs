@@ -2,26 +2,132 @@
 //! To link: put this file beside a program that says `mod ddoc;` and name the archive to the compiler,
 //! `rustc -O --edition 2021 program.rs -C link-arg=target/staticlib/libddoc.a`.
 
+// A program need not call everything.
+#![allow(dead_code)]
+
 /// What comes back. Number 0: accepted. Any other number is a refusal of document 01.
 #[repr(C)]
 #[derive(Clone, Copy, Debug, PartialEq, Eq)]
 pub struct Answer {
     pub number: usize,
-    /// Refused: the index of the codeword. Accepted: 0.
+    /// Refused: the index of the codeword, character or record, or the place in the header. Accepted: 0.
     pub place: usize,
-    /// Characters of text, 0 if refused.
+    /// Characters of text, or codewords of a symbol written; 0 if refused and for conformity.
     pub length: usize,
-    /// Codewords before the first pad, all of them if there is no pad, 0 if refused.
+    /// Codewords before the first pad, all of them if there is no pad, 0 if refused and for texts.
     pub used: usize,
+}
+
+/// A field: its row, whether it is cut, and where its data stand in a slice.
+#[repr(C)]
+#[derive(Clone, Copy, Debug, PartialEq, Eq)]
+pub struct Field {
+    pub row: u16,
+    pub cut: bool,
+    pub start: u32,
+    pub length: u32,
+}
+
+/// The header's parts. Those that the version lacks are zero after reading and not looked at in writing.
+#[repr(C)]
+#[derive(Clone, Copy, Debug, Default, PartialEq, Eq)]
+pub struct Header {
+    pub version: [u8; 2],
+    pub authority: [u8; 4],
+    pub certificate: [u8; 4],
+    pub issue_day: u16,
+    pub signing_day: u16,
+    pub document_type: [u8; 2],
+    pub perimeter: [u8; 2],
+    pub country: [u8; 2],
+}
+
+/// What comes back from reading a text. Refused: everything but number and place is zero.
+#[repr(C)]
+#[derive(Clone, Copy, Debug, PartialEq, Eq)]
+pub struct Message {
+    pub number: usize,
+    /// Refused: the index into the text. Accepted: 0.
+    pub place: usize,
+    /// The records stored in the lent list.
+    pub fields: usize,
+    pub signature_length: usize,
+    /// The signed part: so many characters from the text's beginning.
+    pub signed_length: usize,
+    pub header: Header,
+    /// Zero behind its length.
+    pub signature: [u8; 132],
 }
 
 extern "C" {
     fn ddoc_read_symbol(codewords: *const u8, count: usize, text: *mut u8, room: usize) -> Answer;
+    fn ddoc_write_symbol(
+        text: *const u8,
+        length: usize,
+        largest: usize,
+        work: *mut u16,
+        work_room: usize,
+        symbol: *mut u8,
+        room: usize,
+    ) -> Answer;
+    fn ddoc_read_text(text: *const u8, length: usize, fields: *mut Field, room: usize) -> Message;
+    fn ddoc_write_text(
+        header: Header,
+        fields: *const Field,
+        count: usize,
+        data: *const u8,
+        data_length: usize,
+        signature: *const u8,
+        signature_length: usize,
+        out: *mut u8,
+        room: usize,
+    ) -> Answer;
+    fn ddoc_conformity(type0: u8, type1: u8, fields: *const Field, count: usize) -> Answer;
 }
+
+// Slices cannot overlap where one of them is written to, and the library keeps no pointer.
 
 /// Reads the codewords into the lent text, which needs 1,000 bytes or more (else refusal 6).
 /// Accepted: the first `length` bytes are the text, the others untouched. Refused: all are untouched.
 pub fn read_symbol(codewords: &[u8], text: &mut [u8]) -> Answer {
-    // The two slices cannot overlap, and the library keeps neither pointer.
     unsafe { ddoc_read_symbol(codewords.as_ptr(), codewords.len(), text.as_mut_ptr(), text.len()) }
+}
+
+/// Writes the text into the smallest symbol that holds it, of at most `largest` codewords. The work slice needs 8,192
+/// entries or more (else refusal 6); its first 8,192 are zero afterwards, but untouched for 5, 7, 8 and its own 6.
+/// Accepted: the first `length` bytes are the symbol, the others untouched. Refused: all are untouched.
+pub fn write_symbol(text: &[u8], largest: usize, work: &mut [u16], symbol: &mut [u8]) -> Answer {
+    unsafe {
+        let (lent, room) = (symbol.as_mut_ptr(), symbol.len());
+        ddoc_write_symbol(text.as_ptr(), text.len(), largest, work.as_mut_ptr(), work.len(), lent, room)
+    }
+}
+
+/// Reads the text into the lent list, which needs 64 records or more (else refusal 6).
+/// Accepted: the first `fields` records are the fields, the others untouched. Refused: all are untouched.
+pub fn read_text(text: &[u8], fields: &mut [Field]) -> Message {
+    unsafe { ddoc_read_text(text.as_ptr(), text.len(), fields.as_mut_ptr(), fields.len()) }
+}
+
+/// Writes the message into the lent output; the records point into `data`.
+/// Accepted: the first `length` bytes are the text, the others untouched. Refused: all are untouched.
+pub fn write_text(header: Header, fields: &[Field], data: &[u8], signature: &[u8], out: &mut [u8]) -> Answer {
+    unsafe {
+        ddoc_write_text(
+            header,
+            fields.as_ptr(),
+            fields.len(),
+            data.as_ptr(),
+            data.len(),
+            signature.as_ptr(),
+            signature.len(),
+            out.as_mut_ptr(),
+            out.len(),
+        )
+    }
+}
+
+/// Whether the fields are those that the type asks for and permits.
+pub fn conformity(document_type: [u8; 2], fields: &[Field]) -> Answer {
+    unsafe { ddoc_conformity(document_type[0], document_type[1], fields.as_ptr(), fields.len()) }
 }

@@ -34,26 +34,26 @@ pub struct Refusal {
 }
 
 #[derive(Clone, Copy, PartialEq)]
-enum Mode {
+pub enum Mode {
     Ascii,
     C40,
 }
 
 /// The set that the next C40 value is looked up in.
 #[derive(Clone, Copy, PartialEq)]
-enum Set {
+pub enum Set {
     Basic,
     One,
     Two,
     Three,
 }
 
-struct Reader<'a> {
-    codewords: &'a [u8],
-    place: usize,
-    mode: Mode,
-    set: Set,
-    text: Vec<u8>,
+pub struct Reader<'a> {
+    pub codewords: &'a [u8],
+    pub place: usize,
+    pub mode: Mode,
+    pub set: Set,
+    pub text: Vec<u8>,
 }
 
 /// "Order, symbol reading: 1, 6, then left to right"
@@ -67,11 +67,7 @@ pub fn read_symbol(codewords: &[u8], room: usize) -> Result<Reading, Refusal> {
     // "The reader starts in ASCII mode."
     let mut reader = Reader { codewords, place: 0, mode: Mode::Ascii, set: Set::Basic, text: Vec::new() };
     loop {
-        let end = match reader.mode {
-            Mode::Ascii => reader.ascii_step()?,
-            Mode::C40 => reader.c40_step()?,
-        };
-        if let Some(used) = end {
+        if let Some(used) = reader.step()? {
             return Ok(Reading { text: reader.text, used });
         }
     }
@@ -82,6 +78,14 @@ fn refuse<T>(number: usize, place: usize) -> Result<T, Refusal> {
 }
 
 impl Reader<'_> {
+    /// What is read in one go. Some(used) when the text has ended.
+    pub fn step(&mut self) -> Result<Option<usize>, Refusal> {
+        match self.mode {
+            Mode::Ascii => self.ascii_step(),
+            Mode::C40 => self.c40_step(),
+        }
+    }
+
     /// One codeword in ASCII mode. Some(used) when the text has ended.
     fn ascii_step(&mut self) -> Result<Option<usize>, Refusal> {
         let place = self.place;
