@@ -6,11 +6,18 @@ ghost use Rattle.symbol_reader.specs.Answers.{lentAfter};
 ghost use Rattle.symbol_writer.specs.Promise.{workLeft};
 ghost use Rattle.conformity.specs.Conformity.{conforms};
 ghost use Rattle.conformity.specs.Noted.{answered};
-ghost use Rattle.ddoc.specs.Answers.{readingAnswer, Writes, conformityAnswer};
+ghost use Rattle.dictionary.specs.Rows.{rows};
+ghost use Rattle.text.specs.Text.{readText};
+ghost use Rattle.text_reader.specs.Answers.{textAnswer};
+ghost use Rattle.ddoc.specs.Answers.{readingAnswer, Writes, conformityAnswer, refusalOf, messageAnswer, wholeAnswer, listAfter};
 use conformity::Conformity;
 use dictionary::Field;
+use dictionary::Fields;
+use refusal::Refusal;
 use symbol_reader::SymbolRead;
 use symbol_writer::SymbolWritten;
+use text_reader::Outcome;
+use text_reader::TextRead;
 
 // Accepted: number 0 and place 0. Refused: length and used 0.
 #[repr(C)]
@@ -96,4 +103,78 @@ pub extern "C" fn ddoc_conformity(type0: u8, type1: u8, fields: &[Field]) -> Ans
 {
     let c = records::conforms_list(type0, type1, fields);
     conformity_numbers(c)
+}
+
+// Accepted: number 0 and place 0, and `fields` records stored in the lent list. Refused: all else is zero.
+#[repr(C)]
+pub struct Message {
+    pub number: usize,
+    pub place: usize,
+    pub fields: usize,
+    pub signature_length: usize,
+    pub signed_length: usize,
+    pub header: text::Header,
+    pub signature: [u8; 132],
+}
+
+// A message and its fields by value, so that nothing but storing them is left for whoever holds the lent list.
+struct Whole {
+    message: Message,
+    fields: Fields,
+}
+
+fn refusal_of(o: Outcome) -> Refusal
+    ensures { λ r. ⌜ r ≡ refusalOf o ⌝ }
+{
+    match o {
+        Outcome::Accepted => Refusal {
+            number: 0,
+            place: 0,
+        },
+        Outcome::Refused(w) => w,
+    }
+}
+
+fn message_numbers(r: TextRead) -> Message
+    ensures { λ m. ⌜ m ≡ messageAnswer r ⌝ }
+{
+    let o = r.outcome;
+    let w = refusal_of(o);
+    let f = r.fields;
+    let header = r.header;
+    let signature = r.signature;
+    Message {
+        number: w.number as usize,
+        place: w.place,
+        fields: f.count,
+        signature_length: r.signature_length,
+        signed_length: r.signed_length,
+        header: header,
+        signature: signature,
+    }
+}
+
+fn read_whole(text: &[u8], room: usize) -> Whole
+    ensures { λ r. ⌜ r ≡ wholeAnswer (textAnswer (readText rows room (now (text .entry)))) ⌝ }
+{
+    let r = text_reader::read_text(text, room);
+    let fields = r.fields;
+    let message = message_numbers(r);
+    Whole {
+        message: message,
+        fields: fields,
+    }
+}
+
+// The count is 0 where the text is refused, so that the list is as it was.
+#[no_mangle]
+pub extern "C" fn ddoc_read_text(text: &[u8], fields: &mut [Field]) -> Message
+    ensures answer { λ r. ⌜ r ≡ messageAnswer (textAnswer (readText rows (length (now (fields .entry))) (now (text .entry)))) ⌝ }
+    ensures lent { λ r. ⌜ now (fields .exit) ≡ listAfter (readText rows (length (now (fields .entry))) (now (text .entry))) (now (fields .entry)) ⌝ }
+{
+    let room = fields.len();
+    let w = read_whole(text, room);
+    let f = w.fields;
+    records::put_all(fields, f);
+    w.message
 }
