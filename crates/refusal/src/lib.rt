@@ -74,6 +74,9 @@ pub const NO_ROW: u8 = 31;
 // A text has at most 1,000 characters.
 pub const LIMIT: usize = 1000;
 
+// A message has at most 64 fields.
+pub const MOST_FIELDS: usize = 64;
+
 // The first n of the one over the first n of the other.
 pub fn copy(from: &[u8], to: &mut [u8], n: usize)
     requires { ⌜ (n ≤ length (now from)) × (n ≤ length (now to)) ⌝ }

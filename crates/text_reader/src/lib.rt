@@ -16,9 +16,6 @@ ghost use Rattle.text.specs.Text.{reading, readText, signedPart};
 ghost use Rattle.text_reader.specs.Answers.{noField, fieldsOf, zoneAnswer, textAnswer};
 ghost use Rattle.text_reader.specs.Code.{stepSays, dataSays, DataFits, StepFits, fieldOf, rowSays, RowFits, Marks, fieldSays, FieldFits, refusedField, marked};
 
-// A message has at most 64 fields, and a lent list has room for as many.
-pub const MOST_FIELDS: usize = 64;
-
 // A message, or a refusal with its number and place.
 pub enum Outcome {
     Accepted,
@@ -195,7 +192,7 @@ fn read_field(text: &[u8], p: usize, end: usize, used: &[bool; 110], count: usiz
             if used[n] {
                 return refuse_field(refusal::IDENTIFIER_REPEATED, p);
             }
-            if count == MOST_FIELDS {
+            if count == refusal::MOST_FIELDS {
                 return refuse_field(refusal::TOO_MANY_FIELDS, p);
             }
             read_record(n, r, text, p, end)
@@ -342,7 +339,7 @@ pub fn read_text(text: &[u8], room: usize) -> TextRead
             place: refusal::LIMIT,
         });
     }
-    if room < MOST_FIELDS {
+    if room < refusal::MOST_FIELDS {
         return refuse_text(refusal::Refusal {
             number: refusal::LENT_TOO_SHORT,
             place: 0,
@@ -355,7 +352,7 @@ pub fn read_text(text: &[u8], room: usize) -> TextRead
 pub fn signed_part(text: &[u8]) -> &[u8]
     ensures { λ r. ⌜ now r ≡ signedPart rows most-fields (now (text .entry)) ⌝ }
 {
-    let r = read_text(text, MOST_FIELDS);
+    let r = read_text(text, refusal::MOST_FIELDS);
     let n = r.signed_length;
     &text[..n]
 }

@@ -1,8 +1,8 @@
 -- The checks of a record, each at the test that decides it: a number looked for in a list place by place, characters that stand in
 -- turn, and the mark behind the data. By cases on the test.
 -- Assumes nothing.
-use Prim.Native.Nat.{ℕ, suc, _+_, _≤_, _<_}
-use mathlib.Core.Bool.{Bool, true, false, _&&_, _||_}
+use Prim.Native.Nat.{ℕ, _+_, _≤_, _<_}
+use mathlib.Core.Bool.{Bool, true, false}
 use mathlib.Core.List.{List, [], _∷_, _++_, append-nil}
 use mathlib.Core.Path.{_≡_, refl, sym, ap, _∙_}
 use native.Mathlib.Numerals.{add-one}
@@ -17,7 +17,7 @@ use Rattle.dictionary.specs.declared.Row.{Row}
 use Rattle.text.specs.declared.Header.{Header}
 use Rattle.text.specs.declared.Version.{Version}
 use Rattle.text.specs.declared.Version.the-variants.{V02, V03, V04}
-use Rattle.text.specs.Header.{size, versionChars, digits, headerChars}
+use Rattle.text.specs.Header.{size, digits, headerChars}
 use Rattle.text.specs.Signature.{lengthOfBytes}
 use Rattle.text.specs.Text.{inTurn, spelled}
 use Rattle.text_writer.specs.Writing.{among, markOf}

@@ -7,7 +7,7 @@ use mathlib.Core.Path.{_≡_, refl, sym, ap, _∙_}
 use native.Mathlib.Omega.{arith}
 use lib.ListN.{length, getD, set, take, drop, length-append, length-drop, length-set, take-append-drop}
 use lib.Seq.{take-length, drop-cons, set-at, append-snoc}
-use Rattle.refusal.specs.Answers.{Answer, good, refused}
+use Rattle.refusal.specs.Answers.{good, refused}
 use borrow.Rule.Slice.PartMut.{putMid}
 use Rattle.refusal.specs.Over.{over}
 use Rattle.refusal.proofs.Over.{over-tail}

@@ -6,9 +6,9 @@ use mathlib.Core.List.{List, [], _∷_}
 use mathlib.Core.Path.{_≡_, refl, sym, ap, _∙_}
 use native.Mathlib.Omega.{arith}
 use lib.Dec.{eqb}
-use lib.ListN.{length, getD}
+use lib.ListN.{getD}
 use Rattle.refusal.specs.Answers.{Answer, good, refused, _>>=_, _>>_, check}
-use Rattle.refusal.specs.Numbers.{refusal, wrong-header-character, wrong-perimeter}
+use Rattle.refusal.specs.Numbers.{wrong-header-character, wrong-perimeter}
 use Rattle.refusal.specs.declared.Refusal.{Refusal as RefusalOf}
 use Rattle.refusal.proofs.Binds.{by-seq, same-good}
 use Rattle.dictionary.specs.Dictionary.{upper}
@@ -17,8 +17,7 @@ use Rattle.text.specs.declared.Version.{Version}
 use Rattle.text.specs.declared.Version.the-variants.{V02, V03, V04}
 use Rattle.text.specs.Header.{letter, hex, part, perimeter01, perimeterIn, countryIn, parts, versionOf, headerChars, writeHeader}
 use Rattle.text.specs.Code.{verdict}
-use Rattle.text_writer.specs.declared.Room.{Room}
-use Rattle.text_writer.specs.declared.Room.the-variants.{Takes, Refused}
+use Rattle.text_writer.specs.declared.Room.the-variants.{Refused}
 use Rattle.text_writer.specs.Writing.{roomOf}
 
 record Numbered {A : Type 0} (x : Answer A) : Type 0 where

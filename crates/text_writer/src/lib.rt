@@ -10,7 +10,7 @@ use text::Version;
 ghost use mathlib.Core.Bool.{_&&_};
 ghost use mathlib.Core.Path.{_≡_};
 ghost use mathlib.Core.List.{List, []};
-ghost use Prim.Native.Nat.{ℕ, _+_, _*_, _<_, _≤_};
+ghost use Prim.Native.Nat.{_+_, _*_, _<_, _≤_};
 ghost use lib.ListN.{length, getD, take};
 ghost use Rattle.refusal.specs.Over.{over};
 ghost use Rattle.refusal.specs.Answers.{good, refused};
@@ -33,9 +33,6 @@ pub enum Room {
     Takes(usize),
     Refused(Refusal),
 }
-
-// "A message has at most 64 fields."
-const MOST_FIELDS: usize = 64;
 
 fn refuse(number: u8, place: usize) -> Room
     ensures { λ r. ⌜ r ≡ roomOf (refused number place) ⌝ }
@@ -347,8 +344,8 @@ pub fn write_text(
     ensures answer { λ r. ⌜ r ≡ textWritten (writeFirst theRows header fields (now (signature .entry)) (now (slice .entry)) (length (now (out .entry)))) ⌝ }
     ensures lent { λ r. ⌜ now (out .exit) ≡ writtenOver (writeFirst theRows header fields (now (signature .entry)) (now (slice .entry)) (length (now (out .entry)))) (now (out .entry)) ⌝ }
 {
-    if MOST_FIELDS < fields.count {
-        return no_text(refusal::TOO_MANY_FIELDS, MOST_FIELDS);
+    if refusal::MOST_FIELDS < fields.count {
+        return no_text(refusal::TOO_MANY_FIELDS, refusal::MOST_FIELDS);
     }
     let text::VersionRead::Known(v) = text::header_version(header) else {
         return no_text(refusal::UNKNOWN_VERSION, 2);

@@ -1,6 +1,6 @@
 -- `room_spelled` meets its contract: two characters of the identifier, the data, and the mark if there is one. Assumes nothing.
 use mathlib.Core.List.{[], _∷_}
-use mathlib.Core.Path.{_≡_, sym, ap, _∙_}
+use mathlib.Core.Path.{sym, ap, _∙_}
 use native.Mathlib.Omega.{arith}
 use lib.ListN.{length, length-append}
 use Rattle.text_writer.specs.Writing.{markOf}
