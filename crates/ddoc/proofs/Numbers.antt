@@ -12,6 +12,11 @@ use Rattle.conformity.specs.Conformity.{conforms}
 use Rattle.conformity.specs.Noted.{answered as as-enum}
 use Rattle.ddoc.specs.declared.Answer.{Answer}
 use Rattle.ddoc.specs.Answers.{readingAnswer, conformityAnswer}
+use Rattle.ddoc.specs.Answers.{writtenAnswer}
+use Rattle.refusal.specs.Answers.{Answer as Outcome, good as written, refused as unwritten}
+use Rattle.text_writer.specs.declared.TextWritten.{TextWritten}
+use Rattle.text_writer.specs.declared.TextWritten.the-variants.{Written, Refused as Unwritten}
+use Rattle.text_writer.specs.Writing.{textWritten}
 
 abbrev pub numbers : SymbolRead → Answer
 numbers (Text n used) = record { number = 0; place = 0; length = n; used = used }
@@ -27,3 +32,11 @@ Checked a b l r = r ≡ conformityAnswer (as-enum (conforms a b l))
 
 pub only-one : (a b : ℕ) (l : List Field) (r r′ : Answer) → Checked a b l r → Checked a b l r′ → r ≡ r′
 only-one a b l r r′ p q = p ∙ sym q
+
+abbrev pub text-numbers : TextWritten → Answer
+text-numbers (Written n) = record { number = 0; place = 0; length = n; used = 0 }
+text-numbers (Unwritten r) = record { number = r .number; place = r .place; length = 0; used = 0 }
+
+pub text-numbers-are : (o : Outcome (List ℕ)) → text-numbers (textWritten o) ≡ writtenAnswer o
+text-numbers-are (written t) = refl
+text-numbers-are (unwritten k p) = refl

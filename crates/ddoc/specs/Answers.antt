@@ -61,3 +61,7 @@ wholeAnswer x = record { message = messageAnswer x; fields = x .fields }
 abbrev pub listAfter : Says Text → List Field → List Field
 listAfter (accepts x) old = x .message .fields ++ drop (length (x .message .fields)) old
 listAfter (refuses k p) old = old
+
+abbrev pub writtenAnswer : Says (List ℕ) → Answer
+writtenAnswer (accepts t) = record { number = 0; place = 0; length = length t; used = 0 }
+writtenAnswer (refuses k p) = record { number = k; place = p; length = 0; used = 0 }

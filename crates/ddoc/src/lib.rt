@@ -7,17 +7,20 @@ ghost use Rattle.symbol_writer.specs.Promise.{workLeft};
 ghost use Rattle.conformity.specs.Conformity.{conforms};
 ghost use Rattle.conformity.specs.Noted.{answered};
 ghost use Rattle.dictionary.specs.Rows.{rows};
-ghost use Rattle.text.specs.Text.{readText};
+ghost use Rattle.text.specs.Text.{readText, writeText};
 ghost use Rattle.text_reader.specs.Answers.{textAnswer};
-ghost use Rattle.ddoc.specs.Answers.{readingAnswer, Writes, conformityAnswer, refusalOf, messageAnswer, wholeAnswer, listAfter};
+ghost use Rattle.text_writer.specs.Writing.{writeFirst, writtenOver};
+ghost use Rattle.ddoc.specs.Answers.{readingAnswer, Writes, conformityAnswer, refusalOf, messageAnswer, wholeAnswer, listAfter, writtenAnswer};
 use conformity::Conformity;
 use dictionary::Field;
 use dictionary::Fields;
 use refusal::Refusal;
 use symbol_reader::SymbolRead;
 use symbol_writer::SymbolWritten;
+use text::Header;
 use text_reader::Outcome;
 use text_reader::TextRead;
+use text_writer::TextWritten;
 
 // Accepted: number 0 and place 0. Refused: length and used 0.
 #[repr(C)]
@@ -177,4 +180,48 @@ pub extern "C" fn ddoc_read_text(text: &[u8], fields: &mut [Field]) -> Message
     let f = w.fields;
     records::put_all(fields, f);
     w.message
+}
+
+// The records by value; their count says how many the caller has, if it is more than 64 or not.
+fn write_numbers(
+    header: Header,
+    f: Fields,
+    slice: &[u8],
+    signature: &[u8],
+    out: &mut [u8],
+) -> Answer
+    ensures answer { λ r. ⌜ r ≡ writtenAnswer (writeFirst rows header f (now (signature .entry)) (now (slice .entry)) (length (now (out .entry)))) ⌝ }
+    ensures lent { λ r. ⌜ now (out .exit) ≡ writtenOver (writeFirst rows header f (now (signature .entry)) (now (slice .entry)) (length (now (out .entry)))) (now (out .entry)) ⌝ }
+{
+    let answer = text_writer::write_text(header, f, slice, signature, out);
+    match answer {
+        TextWritten::Written(n) => Answer {
+            number: 0,
+            place: 0,
+            length: n,
+            used: 0,
+        },
+        TextWritten::Refused(r) => Answer {
+            number: r.number as usize,
+            place: r.place,
+            length: 0,
+            used: 0,
+        },
+    }
+}
+
+// The records' data stand in `slice`. The answer's length is that of the text written.
+#[no_mangle]
+pub extern "C" fn ddoc_write_text(
+    header: Header,
+    fields: &[Field],
+    slice: &[u8],
+    signature: &[u8],
+    out: &mut [u8],
+) -> Answer
+    ensures answer { λ r. ⌜ r ≡ writtenAnswer (writeText rows (record { header = header; fields = now (fields .entry); signature = now (signature .entry) }) (now (slice .entry)) (length (now (out .entry)))) ⌝ }
+    ensures lent { λ r. ⌜ now (out .exit) ≡ writtenOver (writeText rows (record { header = header; fields = now (fields .entry); signature = now (signature .entry) }) (now (slice .entry)) (length (now (out .entry)))) (now (out .entry)) ⌝ }
+{
+    let f = records::take_fields(fields);
+    write_numbers(header, f, slice, signature, out)
 }

@@ -1,0 +1,61 @@
+-- `write_numbers` meets its contract: in each arm the answer of `write_text` is known, and its numbers are those of the writing.
+-- Assumes nothing.
+use mathlib.Core.Path.{sym, ap, _∙_}
+use lib.ListN.{length}
+use Rattle.dictionary.specs.Rows.{rows}
+use Rattle.text_writer.specs.Writing.{writeFirst}
+use Rattle.ddoc.proofs.Numbers.{text-numbers, text-numbers-are}
+use borrow.Author.Needs.{needs}
+use Rattle.ddoc.proofs.write_numbers.Statement.{statement}
+use Rattle.ddoc.proofs.write_numbers.Tie as tie
+use Rattle.ddoc.proofs.write_numbers.Reads as reads
+use Rattle.ddoc.proofs.write_numbers.Lts as lts
+use Rattle.text_writer.proofs.write_text.Reads as write-text-reads
+
+write-text-requires : tie.Need-write-text-requires
+write-text-requires c κs = search needs
+
+enum-known-answer : tie.Need-enum-known-answer
+enum-known-answer c = search needs
+
+enum-known-answer-2 : tie.Need-enum-known-answer-2
+enum-known-answer-2 c = search needs
+
+cast-t12 : tie.Need-cast-t12
+cast-t12 c = search needs
+
+same-length : tie.Need-same-length
+same-length c = search needs
+
+returns : tie.Need-returns
+returns c =
+    let c5 = c .before .before .before .before .before in
+    let a = c5 .before .before .before .before .before .args in (
+      ap text-numbers (sym (c .before .answer .given .1) ∙ c5 .write-text .ensures .0) ∙ text-numbers-are (writeFirst rows (a .header) (a .f) (a .signature .now) (a .slice .now) (length (a .out .now))),
+      c5 .write-text .ensures .1,
+    )
+
+same-length-2 : tie.Need-same-length-2
+same-length-2 c = search needs
+
+returns-2 : tie.Need-returns-2
+returns-2 c =
+    let c2 = c .before .before in
+    let c6 = c2 .before .before .before .before in
+    let a = c6 .before .before .before .before .before .args in (
+      ap text-numbers (sym (c2 .answer2 .given .1) ∙ c6 .write-text .ensures .0) ∙ text-numbers-are (writeFirst rows (a .header) (a .f) (a .signature .now) (a .slice .now) (length (a .out .now))),
+      c6 .write-text .ensures .1,
+    )
+
+pub write-numbers-spec : {M : Type 1} → statement M
+write-numbers-spec =
+    tie.close
+    (tie.spec
+    write-text-requires
+    enum-known-answer
+    enum-known-answer-2
+    cast-t12
+    same-length
+    returns
+    same-length-2
+    returns-2)
