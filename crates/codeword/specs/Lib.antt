@@ -1,7 +1,6 @@
 pub mod Meanings
 pub mod Sizes
 pub mod Reading
-pub mod Samples
 pub mod Corners
 pub mod Characters
 pub mod Numbered

@@ -6,3 +6,5 @@ pub mod Back
 pub mod Signatures
 pub mod Heads
 pub mod Whole
+pub mod There
+pub mod Starred

@@ -16,4 +16,3 @@ pub mod Choice
 pub mod Top
 pub mod Unique
 pub mod Round
-pub mod Stars
