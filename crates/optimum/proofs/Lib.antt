@@ -1,4 +1,4 @@
--- The proof that the writer's symbol is the best, from its parts up. The end results are in Top, Unique, Round and Stars.
+-- The proof that the writer's symbol is the best, from its parts up. The end results are in Top, Unique and Round.
 pub mod Edge
 pub mod Values
 pub mod Codes

@@ -1,8 +1,15 @@
 // Runs the samples of document 01 and prints what comes out; the file stdout has what must come out.
 ghost use mathlib.Core.Path.{_≡_};
+ghost use Prim.Native.Nat.{_<_, _≤_};
 ghost use lib.ListN.{length};
+use conformity::Conformity;
+use dictionary::Field;
+use dictionary::Fields;
 use symbol_reader::SymbolRead;
 use symbol_writer::SymbolWritten;
+use text::Header;
+use text_reader::Outcome;
+use text_reader::TextRead;
 
 // A control character is printed as its number in brackets, as document 01 writes it.
 fn show_character(c: u8) {
@@ -144,10 +151,111 @@ fn symbols_read() {
     read_shown(&[66, 67, 68, 129]);
 }
 
+fn field_at(f: Fields, i: usize) -> Field
+    requires { ⌜ i < 64 ⌝ }
+{
+    f.list[i]
+}
+
+// Row, start and length of each field.
+fn show_fields(f: Fields) {
+    let mut i = 0;
+    while i < 64 {
+        if f.count <= i {
+            return;
+        }
+        show_field(field_at(f, i));
+        i += 1;
+    }
+}
+
+fn show_field(f: Field) {
+    io::write_all(1, b" ");
+    io::print_decimal(1, f.row as u64);
+    io::write_all(1, b"/");
+    io::print_decimal(1, f.start as u64);
+    io::write_all(1, b"/");
+    io::print_decimal(1, f.length as u64);
+    if f.cut {
+        io::write_all(1, b"/cut");
+    }
+}
+
+fn show_conformity(h: Header, f: Fields) {
+    let t = h.doctype;
+    let answer = conformity::conforms(t[0], t[1], f);
+    match answer {
+        Conformity::Conforms => {
+            io::write_all(1, b"conforms");
+        }
+        Conformity::Refused(r) => show_refusal(r),
+    }
+}
+
+fn show_message(r: TextRead) {
+    let h = r.header;
+    let f = r.fields;
+    io::write_all(1, b"accepted, days ");
+    io::print_decimal(1, h.issue as u64);
+    io::write_all(1, b" and ");
+    io::print_decimal(1, h.signing as u64);
+    io::write_all(1, b", signed ");
+    io::print_decimal(1, r.signed_length as u64);
+    io::write_all(1, b", signature ");
+    io::print_decimal(1, r.signature_length as u64);
+    io::write_all(1, b", fields");
+    show_fields(f);
+    io::write_all(1, b"; ");
+    show_conformity(h, f);
+}
+
+fn show_text_read(text: &[u8]) {
+    let r = text_reader::read_text(text, 64);
+    let outcome = r.outcome;
+    match outcome {
+        Outcome::Accepted => show_message(r),
+        Outcome::Refused(x) => show_refusal(x),
+    }
+    io::write_all(1, b"\n");
+}
+
+// The end of the line that starts at `from`.
+fn line_end(all: &[u8], from: usize) -> usize
+    requires { ⌜ from ≤ length (now all) ⌝ }
+    ensures { λ r. ⌜ (from ≤ r) × (r ≤ length (now (all .entry))) ⌝ }
+{
+    let mut i = from;
+    while i < all.len() {
+        if all[i] == 10 {
+            return i;
+        }
+        i += 1;
+    }
+    i
+}
+
+// A text a line.
+fn show_texts(all: &[u8]) {
+    let mut from = 0;
+    while from < all.len() {
+        let end = line_end(all, from);
+        show_text_read(&all[from..end]);
+        from = end + 1;
+    }
+}
+
+fn published() {
+    io::write_all(1, b"Published examples\n");
+    let mut all = io::large_buffer();
+    let n = io::read_full(0, &mut all);
+    show_texts(&all[..n]);
+}
+
 fn main() {
     symbols_written();
     symbols_read();
     io::write_all(1, b"1558 codewords, 230 254 in turn: ");
     let most = latches();
     read(&most);
+    published();
 }
