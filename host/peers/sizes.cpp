@@ -1,15 +1,16 @@
-// The sizes that the library chooses beside those of four independent encoders, on 200 texts like those
-// of 2D-DOC and 200 mixed ones, as a table in Markdown. Of the symbols that the library reads as the
-// text none may be smaller than its own; symbols in other modes it doesn't read.
+// The sizes that the library chooses beside those of four independent encoders, on texts like those of
+// 2D-DOC and on as many mixed ones (200 each, or as many as the argument says), as a table in Markdown.
+// Of the symbols that the library reads as the text none may be smaller than its own; symbols in other
+// modes it doesn't read.
 #include "../../include/ddoc.h"
 #include "encoders.hpp"
 #include "texts.hpp"
 #include <cstdio>
+#include <cstdlib>
 #include <vector>
 
 namespace {
 
-const int count = 200;
 const Encoder *const encoders[] = {&iec_two, &dmtx_c40, &dmtx_ascii, &iec_all, &zint_minimal, &zint_fast, &zxing_encoder, &dmtx_best};
 const char *const restricted[] = {"ASCII, C40", "ASCII, C40", "ASCII", "all", "all", "all", "all", "all"};
 
@@ -72,8 +73,13 @@ bool table(const char *name, const std::vector<std::string> &texts)
 
 }  // namespace
 
-int main()
+int main(int arguments, char **argument)
 {
+    const int count = arguments > 1 ? atoi(argument[1]) : 200;
+    if (count < 1) {
+        fprintf(stderr, "sizes: the number of texts is 1 or more, not \"%s\"\n", argument[1]);
+        return 2;
+    }
     printf("Square symbols. \"Ours smaller\": the library's symbol is smaller than the encoder's. An encoder that takes all modes\n");
     printf("can make smaller symbols, which the library doesn't read; beside those that it reads, ours must not be larger.\n");
     Random random(20240818);
