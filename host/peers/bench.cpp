@@ -93,7 +93,8 @@ struct Totals {
 };
 
 const Decoder *const decoders[2] = {&libdmtx, &zxing};
-const int rounds = 201, calls = 64;  // a round of the library is many calls: one is too short for the clock
+int rounds = 201;       // the argument gives another number, for a processor that is slow or emulated
+const int calls = 64;   // a round of the library is many calls: one is too short for the clock
 
 void time_library(const Codewords &words, Time &time)
 {
@@ -164,7 +165,8 @@ void table(const char *name, const Totals &t)
 // ---- writing
 
 const Encoder *const encoders[] = {&zxing_encoder, &zint_fast, &zint_minimal, &dmtx_c40};
-const int peers = sizeof encoders / sizeof encoders[0], writing_rounds = 11;
+const int peers = sizeof encoders / sizeof encoders[0];
+int writing_rounds = 11;
 
 double library_seconds(const std::string &text)
 {
@@ -218,8 +220,16 @@ void bench_writing()
 
 }  // namespace
 
-int main()
+int main(int arguments, char **argument)
 {
+    if (arguments > 1) {
+        rounds = atoi(argument[1]);
+        writing_rounds = std::min(rounds, writing_rounds);
+    }
+    if (rounds < 1) {
+        fprintf(stderr, "bench: the number of rounds is 1 or more, not \"%s\"\n", argument[1]);
+        return 2;
+    }
     printf("ddoc_read_symbol is timed by itself: least and mean of %d rounds of %d calls.\n", rounds, calls);
     printf("The decoders have no public call from codewords to text: their figure is modules to text less the\n");
     printf("same for an empty symbol of that size, measured in turn, each the least of %d runs.\n", rounds);
@@ -240,5 +250,6 @@ int main()
     }
     table("texts like 2D-DOC", documents);
     table("short mixed texts", shorts);
+    fflush(stdout);
     bench_writing();
 }

@@ -35,7 +35,7 @@ pub struct Writer<'a> {
 }
 
 impl Writer<'_> {
-    pub fn new(text: &[u8]) -> Writer {
+    pub fn new(text: &[u8]) -> Writer<'_> {
         // A text that is refused whatever else is asked needs no sets.
         let known = if text_refusal(text).is_some() { &[] } else { text };
         Writer { text, counts: Counts::new(known) }

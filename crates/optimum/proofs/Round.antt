@@ -1,15 +1,13 @@
 -- What is written is read: a best symbol is read as its text with its count of codewords before the pads, with any lent text that
--- is long enough; and a text above the limit has no symbol.
+-- is long enough.
 -- Assumes nothing.
 use Prim.Native.Nat.{ℕ, _≤_}
 use mathlib.Core.Bool.{Bool}
 use mathlib.Core.List.{List}
 use mathlib.Core.Path.{_≡_, ap, sym, _∙_}
-use lib.ListN.{length}
 use Rattle.refusal.specs.Limits.{limit}
-use Rattle.codeword.specs.Reading.{good, inAscii, readSymbol}
+use Rattle.codeword.specs.Reading.{good, readSymbol}
 use Rattle.codeword.specs.Best.{used, Symbol, Best}
-use Rattle.optimum.proofs.Room.{roomy}
 use Rattle.optimum.proofs.Symbols.{into, out-of, Read, read-of}
 
 pub record Says (t ws : List ℕ) (lent : ℕ) : Type 0 where
@@ -30,7 +28,3 @@ symbol-read t ws lent S h = go (read-of t ws S)
 
 pub best-read : (t : List ℕ) (max : ℕ) (ws : List ℕ) (lent : ℕ) → Best t max ws → limit ≤ lent → Says t ws lent
 best-read t max ws lent B h = symbol-read t ws lent (B .symbol) h
-
-pub within-limit : (t ws : List ℕ) → Symbol t ws → length t ≤ limit
-within-limit t ws S =
-    let R = read-of t ws S in roomy ws inAscii limit t (R .n) (R .b) (out-of t ws (R .n) (R .b) (R .symbol) .1) .0

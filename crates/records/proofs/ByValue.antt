@@ -1,11 +1,11 @@
--- A list taken by value, for those who use it: its first 64 records stand first, and all of them where it has no more.
+-- A list taken by value, for those who use it: its count, and all of its records where it has at most 64.
 -- Assumes nothing.
 use Prim.Native.Nat.{ℕ, min, _≤_}
 use native.Mathlib.Omega.{arith}
 use mathlib.Core.List.{List}
-use mathlib.Core.Path.{_≡_, refl, sym, _∙_, ap}
-use lib.ListN.{length, take, drop, replicate, length-take}
-use lib.Seq.{length-take-le, take-all, take-at, take-length, take-take}
+use mathlib.Core.Path.{_≡_, refl, _∙_, ap}
+use lib.ListN.{length, take, drop, replicate}
+use lib.Seq.{length-take-le, take-at, take-length}
 use Rattle.dictionary.specs.declared.Field.{Field}
 use Rattle.records.specs.Lists.{noField, pasted, byValue}
 
@@ -16,13 +16,6 @@ by-value-count l = refl
 -- what was pasted stands first
 pasted-first : (from list : List Field) (n : ℕ) → n ≤ length from → take n (pasted from list n) ≡ take n from
 pasted-first from list n h = take-at (take n from) (drop n list) n (length-take-le n from h)
-
-pub by-value-first : (l : List Field) → take (min (length l) 64) (byValue l .list) ≡ take 64 l
-unfolding byValue
-by-value-first l =
-    let n : ℕ = min (length l) 64 in
-    let long = length-take 64 l in
-    pasted-first l (replicate 64 noField) n (omega arith) ∙ (sym (take-take n 64 l (omega arith)) ∙ take-all n (take 64 l) (omega (arith, long)))
 
 pub by-value-all : (l : List Field) → length l ≤ 64 → take (byValue l .count) (byValue l .list) ≡ l
 unfolding byValue
