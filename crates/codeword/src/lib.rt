@@ -6,7 +6,6 @@ ghost use Rattle.codeword.specs.Characters.{setOf, numberOf};
 ghost use Rattle.codeword.specs.Numbered.{setNumbered, isBasic};
 ghost use Rattle.codeword.specs.Pads.{padAt};
 ghost use Prim.Native.Nat.{_<_};
-ghost use lib.ListN.{getD};
 
 // The four sets of C40. Sets 1, 2 and 3 are also the shifts that wait for their value.
 pub enum Set {
@@ -190,12 +189,11 @@ pub fn is_capacity(n: usize) -> bool
     false
 }
 
-// The size number k, from the smallest.
-pub fn capacity(k: usize) -> usize
-    requires { ⌜ k < 24 ⌝ }
-    ensures { λ r. ⌜ r ≡ getD capacities k 0 ⌝ }
+// All of them, from the smallest. Who asks has a copy, and looks into it in a loop.
+pub fn all_capacities() -> [usize; 24]
+    ensures { λ r. ⌜ r ≡ capacities ⌝ }
 {
-    CAPACITIES[k]
+    CAPACITIES
 }
 
 // Where a character stands in C40.

@@ -1,5 +1,5 @@
 -- Noting the fields of a list one after the other, and then deciding, answers what the definition says of the whole list.
--- Three things are kept: the column stays, a row is there if a field of the list names it, and the first field that is not permitted is the fault.
+-- Three things are kept: the column stays, a mandatory row is there if a field of the list names it, and the first field that is not permitted is the fault.
 -- Assumes nothing.
 use Prim.Native.Nat.{ℕ, zero, suc, _+_, _≤_, _<_, min}
 use native.Mathlib.Numerals.{add-one}
@@ -8,19 +8,20 @@ use mathlib.Core.List.{List, [], _∷_}
 use mathlib.Core.Path.{_≡_, refl, ap, sym, _∙_}
 use native.Mathlib.Omega.{arith}
 use lib.Dec.{ltb, eqb}
-use lib.ListN.{length, getD, set, take, drop, length-set, length-take, replicate, getD-replicate, drop-of-length-le}
+use lib.ListN.{length, getD, set, take, drop, length-take, drop-of-length-le, List·getD-eq-default}
 use lib.Seq.{getD-set-same, getD-set-other, drop-cons}
-use borrow.Author.Tests.{eqb-true, eqb-false, ltb-true}
+use borrow.Author.Tests.{eqb-true, eqb-false, ltb-true, ltb-false}
 use Rattle.refusal.specs.Pick.{pick}
 use Rattle.refusal.specs.Answers.{Answer, good, refused, _>>_, check}
 use Rattle.refusal.specs.Numbers.{type-not-covered, identifier-missing, identifier-not-permitted}
 use Rattle.dictionary.specs.declared.Field.{Field}
 use Rattle.dictionary.specs.Rows.{rowCount}
-use Rattle.refusal.proofs.Binds.{left, right}
+use Rattle.refusal.proofs.Binds.{left, right, clash}
 use Rattle.conformity.specs.declared.Seen.{Seen}
-use Rattle.conformity.specs.Tables.{Exchange, Table, tables}
+use Rattle.conformity.specs.Tables.{Mark, O, F, no, Exchange, Table, tables, domicile, academic}
 use Rattle.conformity.specs.Conformity.{columnOf, tableAt, markOf, mandatory, permitted, present, among, every, replaced, there, complete, allowed, conforms}
-use Rattle.conformity.specs.Noted.{answered, begun, barred, noted, notedAll, hasRow, decided}
+use Rattle.conformity.specs.Noted.{markCode, marksOf, answered, begun, markAt, isBarred, isMissing, isThere, met, noted, notedAll, noneMissing, decided}
+use Rattle.conformity.proofs.Marks.{mark-at}
 
 column-kept : (s : Seen) (i : ℕ) (fs : List Field) → notedAll s i fs .column ≡ s .column
 unfolding notedAll noted
@@ -39,22 +40,57 @@ or-assoc : (x y z : Bool) → ((x || y) || z) ≡ (x || (y || z))
 or-assoc true y z = refl
 or-assoc false y z = refl
 
--- a row that is stored is there
-stored : (l : List Bool) (n m : ℕ) → n < length l → (t : Bool) → eqb n m ≡ t → hasRow (set l m true) n ≡ (hasRow l n || t)
-stored l n m h true e =
-    let q = eqb-true n m e in
-    ap (λ (k : ℕ). getD (set l k true) n false) (sym q) ∙ (getD-set-same l n true false h ∙ or-true (hasRow l n))
-stored l n m h false e = getD-set-other l m n true false (eqb-false n m e) ∙ or-false (hasRow l n)
+-- THE MARKS: where `has` tells which rows the fields so far name, a row's mark is that of its table, but for a mandatory one that is there
+abbrev markNow : Mark → (named : Bool) → ℕ
+markNow O true = 3
+markNow O false = 2
+markNow F h = 1
+markNow no h = 0
 
-rows-are : (s : Seen) (i : ℕ) (fs : List Field) (n : ℕ) → n < length (s .rows) → hasRow (notedAll s i fs .rows) n ≡ (hasRow (s .rows) n || present fs n)
+abbrev Marked : Table → (has : ℕ → Bool) → (rows : List ℕ) → Type 0
+Marked t has rows = (n : ℕ) → markAt rows n ≡ markNow (markOf t n) (has n)
+
+-- a mark that is not 0 is that of a row
+inside : (l : List ℕ) (n : ℕ) → markAt l n ≡ 2 → (b : Bool) → ltb n (length l) ≡ b → n < length l
+inside l n e true q = ltb-true n (length l) q
+inside l n e false q = let z : markAt l n ≡ 0 = List·getD-eq-default l 0 (ltb-false n (length l) q) in absurd (omega arith)
+
+met-itself : (l : List ℕ) (n : ℕ) (m : Mark) (h : Bool) → markAt l n ≡ markNow m h → markAt (met l n) n ≡ markNow m true
+met-itself l n O true e = rw e e
+met-itself l n O false e = rw e (getD-set-same l n 3 0 (inside l n e (ltb n (length l)) refl))
+met-itself l n F h e = rw e e
+met-itself l n no h e = rw e e
+
+met-other : (l : List ℕ) (m n : ℕ) → (n ≡ m → ⊥) → (b : Bool) → markAt (pick b (set l m 3) l) n ≡ markAt l n
+met-other l m n d true = getD-set-other l m n 3 0 d
+met-other l m n d false = refl
+
+module _ (t : Table) (has : ℕ → Bool) (l : List ℕ) (marked : Marked t has l) (m : ℕ) where
+  met-at : (n : ℕ) (b : Bool) → eqb n m ≡ b → markAt (met l m) n ≡ markNow (markOf t n) (has n || b)
+  met-at n true e =
+      let q = eqb-true n m e in
+      ap (λ (k : ℕ). markAt (met l k) n) (sym q) ∙ (met-itself l n (markOf t n) (has n) (marked n) ∙ ap (markNow (markOf t n)) (or-true (has n)))
+  met-at n false e = met-other l m n (eqb-false n m e) (isMissing l m) ∙ (marked n ∙ ap (markNow (markOf t n)) (or-false (has n)))
+
+  one-met : Marked t (λ n. has n || eqb n m) (met l m)
+  one-met n = met-at n (eqb n m) refl
+
+rows-are : (t : Table) (has : ℕ → Bool) (s : Seen) (i : ℕ) (fs : List Field) → Marked t has (s .rows) → Marked t (λ n. has n || present fs n) (notedAll s i fs .rows)
 unfolding notedAll noted present
-rows-are s i [] n h = or-false (hasRow (s .rows) n)
-rows-are s i (f ∷ fs) n h =
-    rows-are (noted s i f) (suc i) fs n (rw (length-set (s .rows) (f .row) true) h) ∙
-    (ap (λ (z : Bool). z || present fs n) (stored (s .rows) n (f .row) h (eqb n (f .row)) refl) ∙
-    or-assoc (hasRow (s .rows) n) (eqb n (f .row)) (present fs n))
+rows-are t has s i [] h n = h n ∙ ap (markNow (markOf t n)) (or-false (has n))
+rows-are t has s i (f ∷ fs) h n =
+    rows-are t (λ k. has k || eqb k (f .row)) (noted s i f) (suc i) fs (one-met t has (s .rows) h (f .row)) n ∙
+    ap (markNow (markOf t n)) (or-assoc (has n) (eqb n (f .row)) (present fs n))
 
--- the first field that was not permitted
+unmet : (m : Mark) → markCode m ≡ markNow m false
+unmet O = refl
+unmet F = refl
+unmet no = refl
+
+at-first : (k : ℕ) → Marked (tableAt k) (λ _. false) (marksOf k rowCount 0)
+at-first k n = mark-at k n ∙ unmet (markOf (tableAt k) n)
+
+-- THE FAULT: the first field that was not permitted
 abbrev fault : Seen → Answer (Unit {0})
 fault s = check (not (s .wrong)) identifier-not-permitted (s .place)
 
@@ -62,79 +98,100 @@ at-end : (w : Bool) (p : ℕ) → check (not w) identifier-not-permitted p ≡ (
 at-end true p = refl
 at-end false p = refl
 
-one-more : (w q : Bool) (p i : ℕ) (r : Answer (Unit {0})) →
-    (check (not (pick w true (not q))) identifier-not-permitted (pick w p (pick (not q) i p)) >> r) ≡
-    (check (not w) identifier-not-permitted p >> (check q identifier-not-permitted i >> r))
-one-more true q p i r = refl
+one-more : (w b : Bool) (p i : ℕ) (r : Answer (Unit {0})) →
+    (check (not (pick w true b)) identifier-not-permitted (pick w p (pick b i p)) >> r) ≡
+    (check (not w) identifier-not-permitted p >> (check (not b) identifier-not-permitted i >> r))
+one-more true b p i r = refl
 one-more false true p i r = refl
 one-more false false p i r = refl
 
-faults-are : (s : Seen) (i : ℕ) (fs : List Field) → fault (notedAll s i fs) ≡ (fault s >> allowed (tableAt (s .column)) i fs)
+-- a mark that is 0 is that of a row which is not permitted
+permitted-by : (m : Mark) (h : Bool) (x : ℕ) → x ≡ markNow m h → not (eqb x 0) ≡ permitted m
+permitted-by O true x e = rw e
+permitted-by O false x e = rw e
+permitted-by F h x e = rw e
+permitted-by no h x e = rw e
+
+faults-are : (t : Table) (has : ℕ → Bool) (s : Seen) (i : ℕ) (fs : List Field) → Marked t has (s .rows) → fault (notedAll s i fs) ≡ (fault s >> allowed t i fs)
 unfolding notedAll noted allowed
-faults-are s i [] = at-end (s .wrong) (s .place)
-faults-are s i (f ∷ fs) =
-    faults-are (noted s i f) (suc i) fs ∙
-    one-more (s .wrong) (permitted (markOf (tableAt (s .column)) (f .row))) (s .place) i (allowed (tableAt (s .column)) (suc i) fs)
+faults-are t has s i [] h = at-end (s .wrong) (s .place)
+faults-are t has s i (f ∷ fs) h =
+    faults-are t (λ k. has k || eqb k (f .row)) (noted s i f) (suc i) fs (one-met t has (s .rows) h (f .row)) ∙
+    (one-more (s .wrong) (isBarred (s .rows) (f .row)) (s .place) i (allowed t (suc i) fs) ∙
+    ap (λ (z : Bool). fault s >> (check z identifier-not-permitted i >> allowed t (suc i) fs)) (permitted-by (markOf t (f .row)) (has (f .row)) (markAt (s .rows) (f .row)) (h (f .row))))
 
--- do all rows that the footnotes name exist?
-abbrev below : List ℕ → Bool
-below [] = true
-below (m ∷ ms) = ltb m 110 && below ms
+-- WHAT IS MISSING: every row that a footnote names is mandatory, so its mark tells whether it is there
+abbrev asked : Table → List ℕ → Bool
+asked t [] = true
+asked t (m ∷ ms) = mandatory (markOf t m) && asked t ms
 
-abbrev belows : List Exchange → Bool
-belows [] = true
-belows (x ∷ xs) = (below (x .one) && below (x .other)) && belows xs
+abbrev all-asked : Table → List Exchange → Bool
+all-asked t [] = true
+all-asked t (x ∷ xs) = (asked t (x .one) && asked t (x .other)) && all-asked t xs
 
-exchanges-below : (k : ℕ) → belows (tableAt k .exchanges) ≡ true
-unfolding tableAt
-exchanges-below zero = refl
-exchanges-below (suc zero) = refl
-exchanges-below (suc (suc zero)) = refl
-exchanges-below (suc (suc (suc zero))) = refl
-exchanges-below (suc (suc (suc (suc zero)))) = refl
-exchanges-below (suc (suc (suc (suc (suc k))))) = refl
+exchanges-asked : (k : ℕ) → all-asked (tableAt k) (tableAt k .exchanges) ≡ true
+unfolding tableAt markOf domicile academic
+exchanges-asked zero = refl
+exchanges-asked (suc zero) = refl
+exchanges-asked (suc (suc zero)) = refl
+exchanges-asked (suc (suc (suc zero))) = refl
+exchanges-asked (suc (suc (suc (suc zero)))) = refl
+exchanges-asked (suc (suc (suc (suc (suc k))))) = refl
 
--- two that agree on the rows agree on what is missing
-module _ (h k : ℕ → Bool) (same : (n : ℕ) → n < 110 → h n ≡ k n) where
-  every-same : (ms : List ℕ) → below ms ≡ true → every h ms ≡ every k ms
+there-by : (m : Mark) (h : Bool) (x : ℕ) → x ≡ markNow m h → mandatory m ≡ true → eqb x 3 ≡ h
+there-by O true x e q = rw e
+there-by O false x e q = rw e
+there-by F h x e q = clash q
+there-by no h x e q = clash q
+
+-- one row of the search
+missing-by : (m : Mark) (h r : Bool) (x : ℕ) → x ≡ markNow m h → (not (eqb x 2) || r) ≡ (not (mandatory m) || (h || r))
+missing-by O true r x e = rw e
+missing-by O false r x e = rw e
+missing-by F h r x e = rw e
+missing-by no h r x e = rw e
+
+module _ (t : Table) (has : ℕ → Bool) (l : List ℕ) (marked : Marked t has l) where
+  every-same : (ms : List ℕ) → asked t ms ≡ true → every (isThere l) ms ≡ every has ms
   every-same [] e = refl
   every-same (m ∷ ms) e =
-      ap (λ (z : Bool). z && every h ms) (same m (ltb-true m 110 (left (ltb m 110) (below ms) e))) ∙
-      ap (λ (z : Bool). k m && z) (every-same ms (right (ltb m 110) (below ms) e))
+      ap (λ (z : Bool). z && every (isThere l) ms) (there-by (markOf t m) (has m) (markAt l m) (marked m) (left (mandatory (markOf t m)) (asked t ms) e)) ∙
+      ap (λ (z : Bool). has m && z) (every-same ms (right (mandatory (markOf t m)) (asked t ms) e))
 
-  replaced-same : (xs : List Exchange) (n : ℕ) → belows xs ≡ true → replaced h xs n ≡ replaced k xs n
+  replaced-same : (xs : List Exchange) (n : ℕ) → all-asked t xs ≡ true → replaced (isThere l) xs n ≡ replaced has xs n
   replaced-same [] n e = refl
   replaced-same (x ∷ xs) n e =
-      let p = left (below (x .one) && below (x .other)) (belows xs) e in
-      let q = right (below (x .one) && below (x .other)) (belows xs) e in
-      rw (every-same (x .other) (right (below (x .one)) (below (x .other)) p), every-same (x .one) (left (below (x .one)) (below (x .other)) p), replaced-same xs n q)
+      let p = left (asked t (x .one) && asked t (x .other)) (all-asked t xs) e in
+      let q = right (asked t (x .one) && asked t (x .other)) (all-asked t xs) e in
+      rw (every-same (x .other) (right (asked t (x .one)) (asked t (x .other)) p), every-same (x .one) (left (asked t (x .one)) (asked t (x .other)) p), replaced-same xs n q)
 
-  complete-same : (t : Table) → belows (t .exchanges) ≡ true → (left n : ℕ) → left + n ≤ 110 → complete t h left n ≡ complete t k left n
-  unfolding complete there
-  complete-same t e zero n l = refl
-  complete-same t e (suc left) n l =
-      rw (same n (omega arith), replaced-same (t .exchanges) n e, complete-same t e left (suc n) (omega arith))
+  complete-same : all-asked t (t .exchanges) ≡ true → (left n : ℕ) → noneMissing (t .exchanges) l left n ≡ complete t has left n
+  unfolding noneMissing complete there
+  complete-same e zero n = refl
+  complete-same e (suc left) n =
+      rw (missing-by (markOf t n) (has n) (replaced (isThere l) (t .exchanges) n) (markAt l n) (marked n), replaced-same (t .exchanges) n e, complete-same e left (suc n))
 
 module _ (a b : ℕ) (fs : List Field) where
   abbrev end : Seen
   end = notedAll (begun a b) 0 fs
 
-  abbrev parts : ℕ → (ℕ → Bool) → Answer (Unit {0}) → Answer (Unit {0})
-  parts k has x = do
-    check (ltb k 5) type-not-covered 0
-    complete (tableAt k) has rowCount 0
-    x
+  abbrev k : ℕ
+  k = columnOf a b
 
-  seen-rows : (n : ℕ) → n < 110 → hasRow (end .rows) n ≡ present fs n
-  seen-rows n h = rows-are (begun a b) 0 fs n h ∙ ap (λ (z : Bool). z || present fs n) (getD-replicate 110 n false false h)
+  abbrev answer : (column : ℕ) → (missing wrong : Answer (Unit {0})) → Answer (Unit {0})
+  answer c x y = do
+    check (ltb c 5) type-not-covered 0
+    x
+    y
 
   pub decided-right : decided end ≡ answered (conforms a b fs)
   unfolding decided conforms
   decided-right =
-      ap (λ (k : ℕ). answered (parts k (hasRow (end .rows)) (fault end))) (column-kept (begun a b) 0 fs) ∙
-      (ap (λ (z : Answer (Unit {0})). answered (check (ltb (columnOf a b) 5) type-not-covered 0 >> (z >> fault end)))
-      (complete-same (hasRow (end .rows)) (present fs) seen-rows (tableAt (columnOf a b)) (exchanges-below (columnOf a b)) 110 0 (omega arith)) ∙
-      ap (λ (z : Answer (Unit {0})). answered (parts (columnOf a b) (present fs) z)) (faults-are (begun a b) 0 fs))
+      let none-yet = at-first k in
+      ap (λ (c : ℕ). answered (answer c (noneMissing (tableAt c .exchanges) (end .rows) rowCount 0) (fault end))) (column-kept (begun a b) 0 fs) ∙
+      (ap (λ (z : Answer (Unit {0})). answered (answer k z (fault end)))
+      (complete-same (tableAt k) (present fs) (end .rows) (rows-are (tableAt k) (λ _. false) (begun a b) 0 fs none-yet) (exchanges-asked k) 110 0) ∙
+      ap (λ (z : Answer (Unit {0})). answered (answer k (complete (tableAt k) (present fs) rowCount 0) z)) (faults-are (tableAt k) (λ _. false) (begun a b) 0 fs none-yet))
 
 -- one turn of the loop: the record at i is noted, and the rest of the list is one record shorter
 pub next-noted : (s next : Seen) (i : ℕ) (x d : Field) (fs : List Field) → i < length fs → x ≡ getD fs i d → next ≡ noted s i x

@@ -1,78 +1,47 @@
--- The code's table of marks: the number at 5 * i + k is the mark of the row i in the column k; and which marks are not permitted, and which are mandatory.
+-- The code's tables: the number n of a column is the mark of the row n, and 0 behind the last row and in what is no column.
 -- Assumes nothing.
-use Prim.Native.Nat.{ℕ, zero, suc, _+_, _*_, _≤_, _<_}
-use mathlib.Core.Bool.{Bool, true, false, not}
-use mathlib.Core.List.{List, [], _∷_}
+use Prim.Native.Nat.{ℕ, zero, suc, _+_, _≤_, _<_}
+use mathlib.Core.Bool.{Bool, true, false}
+use mathlib.Core.List.{[], _∷_}
 use mathlib.Core.Path.{_≡_, refl, ap, sym, _∙_}
 use native.Mathlib.Omega.{arith}
-use lib.Dec.{ltb, eqb}
-use lib.ListN.{length, getD, List·getD-eq-default}
-use borrow.Author.Tests.{le-ltb}
+use lib.Dec.{ltb}
+use lib.ListN.{length, getD, replicate, List·getD-eq-default}
+use borrow.Author.Tests.{ltb-true, ltb-false, le-ltb}
 use Rattle.refusal.specs.Pick.{pick}
 use Rattle.dictionary.specs.Rows.{rowCount}
-use Rattle.conformity.specs.Tables.{Mark, O, F, no, Table, tables}
-use Rattle.conformity.specs.Conformity.{none, tableAt, markOf, mandatory, permitted}
-use Rattle.conformity.specs.Noted.{markCode, codeOf, marksFrom, barred}
+use Rattle.conformity.specs.Tables.{Mark, no, Table, tables}
+use Rattle.conformity.specs.Conformity.{none, tableAt, markOf}
+use Rattle.conformity.specs.Noted.{codeOf, marksOf}
 
--- one of five numbers in front of a list
-five : (m : ℕ → ℕ) (l : List ℕ) (k : ℕ) → k < 5 → getD (m 0 ∷ m 1 ∷ m 2 ∷ m 3 ∷ m 4 ∷ l) k 0 ≡ m k
-five m l zero h = refl
-five m l (suc zero) h = refl
-five m l (suc (suc zero)) h = refl
-five m l (suc (suc (suc zero))) h = refl
-five m l (suc (suc (suc (suc zero)))) h = refl
-five m l (suc (suc (suc (suc (suc k))))) h = absurd (omega arith)
+module _ (k : ℕ) where
+  long : (left n : ℕ) → length (marksOf k left n) ≡ left
+  unfolding marksOf
+  long zero n = refl
+  long (suc left) n = ap suc (long left (suc n))
 
-from : (k : ℕ) → k < 5 → (left n i p : ℕ) → i < left → p ≡ 5 * i + k → getD (marksFrom left n) p 0 ≡ codeOf k (n + i)
-unfolding marksFrom
-from k h zero n i p l e = absurd (omega arith)
-from k h (suc left) n zero p l e =
-    let z : p ≡ k = omega arith in
-    let y : n ≡ n + 0 = omega arith in
-    ap (λ (q : ℕ). getD (marksFrom (suc left) n) q 0) z ∙ (five (λ q. codeOf q n) (marksFrom left (suc n)) k h ∙ ap (codeOf k) y)
-from k h (suc left) n (suc i) p l e =
-    let z : p ≡ suc (suc (suc (suc (suc (5 * i + k))))) = omega arith in
-    let y : suc n + i ≡ n + suc i = omega arith in
-    ap (λ (q : ℕ). getD (marksFrom (suc left) n) q 0) z ∙ (from k h left (suc n) i (5 * i + k) (omega arith) refl ∙ ap (codeOf k) y)
+  from : (left n i : ℕ) → i < left → getD (marksOf k left n) i 0 ≡ codeOf k (n + i)
+  unfolding marksOf
+  from zero n i h = absurd (omega arith)
+  from (suc left) n zero h = ap (codeOf k) (omega arith)
+  from (suc left) n (suc i) h = from left (suc n) i (omega arith) ∙ ap (codeOf k) (omega arith)
 
-pub mark-at : (k i : ℕ) → k < 5 → i < 110 → getD (marksFrom rowCount 0) (5 * i + k) 0 ≡ codeOf k i
-mark-at k i h l = let y : 0 + i ≡ i = omega arith in from k h 110 0 i (5 * i + k) l refl ∙ ap (codeOf k) y
+  at : (n : ℕ) (b : Bool) → ltb n 110 ≡ b → getD (marksOf k rowCount 0) n 0 ≡ codeOf k n
+  unfolding markOf
+  at n true e = let z : 0 + n ≡ n = omega arith in from 110 0 n (ltb-true n 110 e) ∙ ap (codeOf k) z
+  at n false e = let h : length (marksOf k 110 0) ≤ n = omega (arith, ltb-false n 110 e, long 110 0) in rw e (List·getD-eq-default (marksOf k 110 0) 0 h)
 
+  pub mark-at : (n : ℕ) → getD (marksOf k rowCount 0) n 0 ≡ codeOf k n
+  mark-at n = at n (ltb n 110) refl
+
+-- what is no column
 either-way : (t : Bool) (m : Mark) → pick t m m ≡ m
 either-way true m = refl
 either-way false m = refl
 
--- no column, and no row
-pub no-column : (k n : ℕ) → 5 ≤ k → true ≡ barred k n
-unfolding tableAt markOf
-no-column k n h =
+pub no-marks : (k : ℕ) → 5 ≤ k → (left n : ℕ) → replicate left 0 ≡ marksOf k left n
+unfolding marksOf tableAt markOf
+no-marks k h zero n = refl
+no-marks k h (suc left) n =
     let e : tableAt k ≡ none = List·getD-eq-default tables none h in
-    rw (e, either-way (ltb n 110) no)
-
-pub no-row : (k n : ℕ) → 110 ≤ n → true ≡ barred k n
-unfolding markOf
-no-row k n h = rw (le-ltb n 110 h)
-
-zero-is : (m : Mark) → eqb (markCode m) 0 ≡ not (permitted m)
-zero-is O = refl
-zero-is F = refl
-zero-is no = refl
-
-pub barred-by : (k n c : ℕ) → c ≡ codeOf k n → eqb c 0 ≡ barred k n
-barred-by k n c e = ap (λ (z : ℕ). eqb z 0) e ∙ zero-is (markOf (tableAt k) n)
-
-two-is : (m : Mark) → markCode m ≡ 2 → mandatory m ≡ true
-two-is O e = refl
-two-is F e = absurd (omega arith)
-two-is no e = absurd (omega arith)
-
-not-two : (m : Mark) → (markCode m ≡ 2 → ⊥) → mandatory m ≡ false
-not-two O e = absurd (e refl)
-not-two F e = refl
-not-two no e = refl
-
-pub mandatory-by : (k n c : ℕ) → c ≡ codeOf k n → c ≡ 2 → mandatory (markOf (tableAt k) n) ≡ true
-mandatory-by k n c e q = two-is (markOf (tableAt k) n) (sym e ∙ q)
-
-pub optional-by : (k n c : ℕ) → c ≡ codeOf k n → (c ≡ 2 → ⊥) → mandatory (markOf (tableAt k) n) ≡ false
-optional-by k n c e q = not-two (markOf (tableAt k) n) (λ z. q (e ∙ z))
+    rw (e, either-way (ltb n 110) no) (ap (λ l. 0 ∷ l) (no-marks k h left (suc n)))

@@ -7,8 +7,7 @@ use mathlib.Core.List.{List, [], _∷_}
 use mathlib.Core.Path.{_≡_, refl, ap, sym, _∙_}
 use native.Mathlib.Omega.{arith}
 use lib.Dec.{ltb, eqb}
-use lib.ListN.{length, getD, set}
-use lib.Seq.{set-out}
+use lib.ListN.{length, set, List·getD-eq-default}
 use borrow.Author.Tests.{eq-eqb, ne-eqb, lt-ltb, le-ltb}
 use Rattle.refusal.specs.Pick.{pick}
 use Rattle.refusal.specs.Answers.{Answer, good, refused, _>>_, check}
@@ -19,10 +18,9 @@ use Rattle.refusal.proofs.Binds.{clash}
 use Rattle.conformity.specs.declared.Conformity.{Conformity}
 use Rattle.conformity.specs.declared.Conformity.the-variants.{Conforms, Refused}
 use Rattle.conformity.specs.declared.Seen.{Seen}
-use Rattle.conformity.specs.Tables.{Mark, O, F, no, Exchange, Table, tables, footnote-star, footnote-6}
-use Rattle.conformity.specs.Conformity.{none, tableAt, markOf, mandatory, permitted, replaced, there, complete}
-use Rattle.conformity.proofs.Marks.{mark-at, mandatory-by, optional-by}
-use Rattle.conformity.specs.Noted.{codeOf, marksFrom, answered, seen, withRow, barred, noted, hasRow, missingSays, decided}
+use Rattle.conformity.specs.Tables.{Exchange, tables, footnote-star, footnote-6}
+use Rattle.conformity.specs.Conformity.{none, tableAt, replaced}
+use Rattle.conformity.specs.Noted.{answered, seen, markAt, isThere, wrongAt, noted, missingSays, noneMissing, decided}
 
 -- a test among others that computed away
 alone : (x : Bool) → x ≡ (((x && true) || false) || false)
@@ -89,81 +87,73 @@ pub no-exchanges : (k : ℕ) → 3 ≤ k → (k ≡ 3 → ⊥) → k < 5 → tab
 unfolding tableAt
 no-exchanges k h e l = let z : k ≡ 4 = omega arith in rw z
 
-module _ (t : Table) (has : ℕ → Bool) (n : ℕ) where
-  pub there-itself : has n ≡ true → true ≡ there t has n
-  unfolding there
-  there-itself e = rw e
+-- one turn of the search for what is missing, at the row n
+module _ (xs : List Exchange) (rows : List ℕ) (n : ℕ) (h : n < 110) where
+  left : 110 - n ≡ suc (110 - suc n)
+  left = omega arith
 
-  pub there-instead : (xs : List Exchange) (r : Bool) → has n ≡ false → t .exchanges ≡ xs → r ≡ replaced has xs n → r ≡ there t has n
-  unfolding there
-  there-instead xs r e x q = q ∙ rw (e, x)
+  pub turn-ends : markAt rows n ≡ 2 → (x : Bool) → x ≡ replaced (isThere rows) xs n → x ≡ false → missingSays n ≡ noneMissing xs rows (110 - n) n
+  unfolding noneMissing
+  turn-ends m x e q = rw (left, m, sym e ∙ q, lt-ltb n 110 h)
 
-  -- one row of the search for what is missing
-  module _ (h : n < 110) where
-    left : 110 - n ≡ suc (110 - suc n)
-    left = omega arith
+  pub turn-replaced : markAt rows n ≡ 2 → (x : Bool) → x ≡ replaced (isThere rows) xs n → x ≡ true → noneMissing xs rows (110 - (n + 1)) (n + 1) ≡ noneMissing xs rows (110 - n) n
+  unfolding noneMissing
+  turn-replaced m x e q = rw (add-one, left, m, sym e ∙ q)
 
-    pub missing-here : mandatory (markOf t n) ≡ true → there t has n ≡ false → missingSays n ≡ complete t has (110 - n) n
-    unfolding complete
-    missing-here m e = rw (left, m, e, lt-ltb n 110 h)
+  pub turn-other : (markAt rows n ≡ 2 → ⊥) → noneMissing xs rows (110 - (n + 1)) (n + 1) ≡ noneMissing xs rows (110 - n) n
+  unfolding noneMissing
+  turn-other m = rw (add-one, left, ne-eqb (markAt rows n) 2 m)
 
-    pub optional-here : mandatory (markOf t n) ≡ false → complete t has (110 - suc n) (suc n) ≡ complete t has (110 - n) n
-    unfolding complete
-    optional-here m = rw (left, m)
+-- a field is noted: its mark decides
+already : (k : ℕ) (l : List ℕ) (w : Bool) (p i : ℕ) → w ≡ true → seen k l w p ≡ seen k l true (pick w p i)
+already k l true p i e = refl
+already k l false p i e = clash e
 
-    pub there-here : mandatory (markOf t n) ≡ true → there t has n ≡ true → complete t has (110 - suc n) (suc n) ≡ complete t has (110 - n) n
-    unfolding complete
-    there-here m e = rw (left, m, e)
+now-first : (k : ℕ) (l : List ℕ) (w : Bool) (p i : ℕ) → w ≡ false → seen k l true i ≡ seen k l true (pick w p i)
+now-first k l true p i e = clash (sym e)
+now-first k l false p i e = refl
 
--- what is no row is not stored
-pub row-out : (s : Seen) (n : ℕ) → length (s .rows) ≡ 110 → 110 ≤ n → s ≡ withRow s n
-row-out s n l h = ap (λ (z : List Bool). seen (s .column) z (s .wrong) (s .place)) (sym (set-out (s .rows) n true (omega arith)))
+module _ (s : Seen) (i : ℕ) where
+  pub wrong-before : s .wrong ≡ true → s ≡ wrongAt s i
+  wrong-before e = already (s .column) (s .rows) (s .wrong) (s .place) i e
 
-still : (k : ℕ) (l : List Bool) (w b : Bool) (p i : ℕ) → w ≡ true → seen k l w p ≡ seen k l (pick w true b) (pick w p (pick b i p))
-still k l true b p i e = refl
-still k l false b p i e = clash e
+  pub wrong-now : s .wrong ≡ false → seen (s .column) (s .rows) true i ≡ wrongAt s i
+  wrong-now e = now-first (s .column) (s .rows) (s .wrong) (s .place) i e
 
-fresh : (k : ℕ) (l : List Bool) (w b : Bool) (p i : ℕ) → w ≡ false → b ≡ true → seen k l true i ≡ seen k l (pick w true b) (pick w p (pick b i p))
-fresh k l true b p i e q = clash (sym e)
-fresh k l false true p i e q = refl
-fresh k l false false p i e q = clash q
+as-before : (k : ℕ) (l : List ℕ) (w : Bool) (p i : ℕ) → seen k l w p ≡ seen k l (pick w true false) (pick w p p)
+as-before k l true p i = refl
+as-before k l false p i = refl
 
-clean : (k : ℕ) (l : List Bool) (w b : Bool) (p i : ℕ) → w ≡ false → b ≡ false → seen k l w p ≡ seen k l (pick w true b) (pick w p (pick b i p))
-clean k l true b p i e q = clash (sym e)
-clean k l false true p i e q = clash (sym q)
-clean k l false false p i e q = refl
+wrong-is : (k : ℕ) (l : List ℕ) (w : Bool) (p i : ℕ) → seen k l true (pick w p i) ≡ seen k l (pick w true true) (pick w p i)
+wrong-is k l true p i = refl
+wrong-is k l false p i = refl
 
--- a field is noted, n being its row
-module _ (s next : Seen) (i n : ℕ) (f : Field) (is : n ≡ f .row) (stored : next ≡ withRow s n) where
-  abbrev b : Bool
-  b = barred (s .column) (f .row)
+module _ (s : Seen) (i n : ℕ) (f : Field) (is : n ≡ f .row) where
+  mark : (m : ℕ) → markAt (s .rows) n ≡ m → markAt (s .rows) (f .row) ≡ m
+  mark m e = ap (markAt (s .rows)) (sym is) ∙ e
 
-  abbrev l : List Bool
-  l = set (s .rows) (f .row) true
-
-  at : next ≡ withRow s (f .row)
-  at = stored ∙ ap (withRow s) is
-
-  -- what was asked of n
-  asked : (x : Bool) (t : Bool) → x ≡ barred (s .column) n → x ≡ t → b ≡ t
-  asked x t e q = ap (barred (s .column)) (sym is) ∙ (sym e ∙ q)
-
-  pub wrong-already : s .wrong ≡ true → next ≡ noted s i f
+  pub noted-wrong : markAt (s .rows) n ≡ 0 → wrongAt s i ≡ noted s i f
   unfolding noted
-  wrong-already w = at ∙ still (s .column) l (s .wrong) b (s .place) i w
+  noted-wrong e = rw (mark 0 e) (wrong-is (s .column) (s .rows) (s .wrong) (s .place) i)
 
-  pub wrong-now : (x : Bool) → x ≡ barred (s .column) n → s .wrong ≡ false → x ≡ true → seen (next .column) (next .rows) true i ≡ noted s i f
+  pub noted-met : markAt (s .rows) n ≡ 2 → seen (s .column) (set (s .rows) n 3) (s .wrong) (s .place) ≡ noted s i f
   unfolding noted
-  wrong-now x e w q = ap (λ (z : Seen). seen (z .column) (z .rows) true i) at ∙ fresh (s .column) l (s .wrong) b (s .place) i w (asked x true e q)
+  noted-met e = rw (mark 2 e, is) (as-before (s .column) (set (s .rows) (f .row) 3) (s .wrong) (s .place) i)
 
-  pub wrong-not : (x : Bool) → x ≡ barred (s .column) n → s .wrong ≡ false → x ≡ false → next ≡ noted s i f
+  pub noted-other : (markAt (s .rows) n ≡ 0 → ⊥) → (markAt (s .rows) n ≡ 2 → ⊥) → s ≡ noted s i f
   unfolding noted
-  wrong-not x e w q = at ∙ clean (s .column) l (s .wrong) b (s .place) i w (asked x false e q)
+  noted-other a b =
+      rw (ne-eqb (markAt (s .rows) (f .row)) 0 (λ e. a (ap (markAt (s .rows)) is ∙ e)), ne-eqb (markAt (s .rows) (f .row)) 2 (λ e. b (ap (markAt (s .rows)) is ∙ e)))
+      (as-before (s .column) (s .rows) (s .wrong) (s .place) i)
+
+  -- what is no row
+  pub noted-no-row : length (s .rows) ≡ 110 → 110 ≤ n → wrongAt s i ≡ noted s i f
+  noted-no-row l h = noted-wrong (List·getD-eq-default (s .rows) 0 (omega arith))
 
 -- the verdict
 module _ (s : Seen) where
   abbrev found : Answer (Unit {0})
-  found = complete (tableAt (s .column)) (hasRow (s .rows)) rowCount 0
+  found = noneMissing (tableAt (s .column) .exchanges) (s .rows) rowCount 0
 
   pub verdict-28 : 5 ≤ s .column → Refused (refusal type-not-covered 0) ≡ decided s
   unfolding decided
@@ -183,20 +173,3 @@ module _ (s : Seen) where
   pub verdict-good : (n : ℕ) → s .column < 5 → missingSays n ≡ found → 110 ≤ n → s .wrong ≡ false → Conforms ≡ decided s
   unfolding decided
   verdict-good n h e l w = rw (lt-ltb (s .column) 5 h, none-missing n e l) (ap (λ (z : Bool). answered (check (not z) identifier-not-permitted (s .place))) (sym w))
-
--- one turn of the search for what is missing, at the row n of the column k
-module _ (k n : ℕ) (rows : List Bool) (marks : List ℕ) (table : marks ≡ marksFrom rowCount 0) (hk : k < 5) (hn : n < 110) where
-  abbrev after : (left n : ℕ) → Answer (Unit {0})
-  after left n = complete (tableAt k) (hasRow rows) left n
-
-  mark : getD marks (5 * n + k) 0 ≡ codeOf k n
-  mark = ap (λ (l : List ℕ). getD l (5 * n + k) 0) table ∙ mark-at k n hk hn
-
-  pub turn-ends : (x : Bool) → getD marks (5 * n + k) 0 ≡ 2 → x ≡ there (tableAt k) (hasRow rows) n → x ≡ false → missingSays n ≡ after (110 - n) n
-  turn-ends x m e q = missing-here (tableAt k) (hasRow rows) n hn (mandatory-by k n _ mark m) (sym e ∙ q)
-
-  pub turn-there : (x : Bool) → getD marks (5 * n + k) 0 ≡ 2 → x ≡ there (tableAt k) (hasRow rows) n → x ≡ true → after (110 - (n + 1)) (n + 1) ≡ after (110 - n) n
-  turn-there x m e q = rw add-one (there-here (tableAt k) (hasRow rows) n hn (mandatory-by k n _ mark m) (sym e ∙ q))
-
-  pub turn-optional : (getD marks (5 * n + k) 0 ≡ 2 → ⊥) → after (110 - (n + 1)) (n + 1) ≡ after (110 - n) n
-  turn-optional m = rw add-one (optional-here (tableAt k) (hasRow rows) n hn (optional-by k n _ mark m))

@@ -11,21 +11,28 @@ ghost use Prim.Native.Nat.{_<_, min};
 ghost use lib.ListN.{take};
 ghost use Rattle.dictionary.specs.Rows.{rowCount};
 ghost use Rattle.conformity.specs.Tables.{footnote-star, footnote-6};
-ghost use Rattle.conformity.specs.Conformity.{columnOf, tableAt, replaced, there, complete, conforms as rightAnswer};
-ghost use Rattle.conformity.specs.Noted.{codeOf, marksFrom, answered, begun, barred, withRow, noted, hasRow, missingSays, decided};
+ghost use Rattle.conformity.specs.Conformity.{columnOf, tableAt, replaced, conforms as rightAnswer};
+ghost use Rattle.conformity.specs.Noted.{marksOf, answered, begun, wrongAt, noted, isThere, missingSays, noneMissing, decided};
 
 pub enum Conformity {
     Conforms,
     Refused(Refusal),
 }
 
-// What is kept of the fields so far: the column of their type, the rows that are there, and the place of the first that is not permitted.
+// What is kept of the fields so far: the column of their type, of each row its mark, and the place of the first field that is not permitted.
 pub struct Seen {
     pub column: usize,
-    pub rows: [bool; 110],
+    pub rows: [u8; 110],
     pub wrong: bool,
     pub place: usize,
 }
+
+// A mark as the tables have it; a mandatory row is missing until a field names it.
+const NOT_PERMITTED: u8 = 0;
+
+const MISSING: u8 = 2;
+
+const THERE: u8 = 3;
 
 // The types covered, numbered: 00, 01, 02, B0, B1; 5 for any other.
 fn column_of(a: u8, b: u8) -> usize
@@ -61,121 +68,109 @@ fn wide(x: u16) -> usize
     x as usize
 }
 
-// The marks of all rows. Who asks has a copy of 550 bytes: `first_missing` has it before its loop, and `note` one for each record,
-// so that the state, which goes from call to call, stays small.
-fn all_marks() -> [u8; 550]
-    ensures { λ r. ⌜ r ≡ marksFrom rowCount 0 ⌝ }
+// The marks of the rows in a column. What is no column permits none.
+fn marks_of(column: usize) -> [u8; 110]
+    ensures { λ r. ⌜ r ≡ marksOf column rowCount 0 ⌝ }
 {
-    table::MARKS
-}
-
-// The mark of a row in a column.
-fn mark_of(column: usize, n: usize) -> u8
-    requires { ⌜ (column < 5) × (n < 110) ⌝ }
-    ensures { λ r. ⌜ r ≡ codeOf column n ⌝ }
-{
-    let marks = all_marks();
-    marks[5 * n + column]
-}
-
-// "none present that the table marks "-"; any other must stand in the table as F or in a section that the table names as optional"
-fn is_barred(column: usize, n: usize) -> bool
-    ensures { λ r. ⌜ r ≡ barred column n ⌝ }
-{
-    if 5 <= column {
-        return true;
+    match column {
+        0 => table::HOME_00,
+        1 => table::HOME_01,
+        2 => table::HOME_02,
+        3 => table::SCHOOL_B0,
+        4 => table::SCHOOL_B1,
+        _ => [0; 110],
     }
-    if 110 <= n {
-        return true;
-    }
-    mark_of(column, n) == 0
 }
 
+// Before the first field. The marks are taken here once, so that no table is looked into field by field.
 pub fn begin(type0: u8, type1: u8) -> Seen
     ensures { λ r. ⌜ r ≡ begun type0 type1 ⌝ }
 {
+    let column = column_of(type0, type1);
     Seen {
-        column: column_of(type0, type1),
-        rows: [false; 110],
+        column: column,
+        rows: marks_of(column),
         wrong: false,
         place: 0,
     }
 }
 
-// The row n is there. What names no row is not kept.
-fn with_row(s: Seen, n: usize) -> Seen
-    ensures { λ r. ⌜ r ≡ withRow s n ⌝ }
+// Of the fields that are not permitted the first keeps its place.
+fn wrong_at(s: Seen, i: usize) -> Seen
+    ensures { λ r. ⌜ r ≡ wrongAt s i ⌝ }
 {
-    if 110 <= n {
+    if s.wrong {
         return s;
     }
     let mut next = s;
-    next.rows[n] = true;
+    next.wrong = true;
+    next.place = i;
     next
 }
 
-// The field at the place i is noted.
+// The field at the place i is noted. "None present that the table marks "-"; any other must stand in the table as F or in a section that the
+// table names as optional". "A record that names no row is 30 here; a repeat is no fault."
 pub fn note(s: Seen, i: usize, f: Field) -> Seen
     ensures { λ r. ⌜ r ≡ noted s i f ⌝ }
 {
     let n = wide(f.row);
-    let mut next = with_row(s, n);
-    if s.wrong {
+    if 110 <= n {
+        return wrong_at(s, i);
+    }
+    let mark = s.rows[n];
+    if mark == NOT_PERMITTED {
+        return wrong_at(s, i);
+    }
+    if mark == MISSING {
+        let mut next = s;
+        next.rows[n] = THERE;
         return next;
     }
-    if is_barred(s.column, n) {
-        next.wrong = true;
-        next.place = i;
-        return next;
-    }
-    next
+    s
 }
 
 // "La donnée 10 et les données (11, 12, 13) sont interchangeables."
-fn by_star(rows: [bool; 110], n: usize) -> bool
-    ensures { λ r. ⌜ r ≡ replaced (hasRow rows) (footnote-star ∷ []) n ⌝ }
+fn by_star(rows: &[u8; 110], n: usize) -> bool
+    ensures { λ r. ⌜ r ≡ replaced (isThere (now (rows .entry))) (footnote-star ∷ []) n ⌝ }
 {
     if n == 13 {
-        if rows[14] {
-            if rows[15] {
-                return rows[16];
+        if rows[14] == THERE {
+            if rows[15] == THERE {
+                return rows[16] == THERE;
             }
         }
         return false;
     }
     if n == 14 {
-        return rows[13];
+        return rows[13] == THERE;
     }
     if n == 15 {
-        return rows[13];
+        return rows[13] == THERE;
     }
     if n == 16 {
-        return rows[13];
+        return rows[13] == THERE;
     }
     false
 }
 
 // "Les données B0 et B1 sont interchangeables."
-fn by_six(rows: [bool; 110], n: usize) -> bool
-    ensures { λ r. ⌜ r ≡ replaced (hasRow rows) (footnote-6 ∷ []) n ⌝ }
+fn by_six(rows: &[u8; 110], n: usize) -> bool
+    ensures { λ r. ⌜ r ≡ replaced (isThere (now (rows .entry))) (footnote-6 ∷ []) n ⌝ }
 {
     if n == 89 {
-        return rows[90];
+        return rows[90] == THERE;
     }
     if n == 90 {
-        return rows[89];
+        return rows[89] == THERE;
     }
     false
 }
 
-// Is the row there, or all that a footnote of its table exchanges it for?
-fn is_there(column: usize, rows: [bool; 110], n: usize) -> bool
-    requires { ⌜ (column < 5) × (n < 110) ⌝ }
-    ensures { λ r. ⌜ r ≡ there (tableAt column) (hasRow rows) n ⌝ }
+// Is all there that a footnote of its table exchanges the row for?
+fn is_replaced(column: usize, rows: &[u8; 110], n: usize) -> bool
+    requires { ⌜ column < 5 ⌝ }
+    ensures { λ r. ⌜ r ≡ replaced (isThere (now (rows .entry))) (tableAt column .exchanges) n ⌝ }
 {
-    if rows[n] {
-        return true;
-    }
     if column < 3 {
         return by_star(rows, n);
     }
@@ -186,15 +181,14 @@ fn is_there(column: usize, rows: [bool; 110], n: usize) -> bool
 }
 
 // "each O identifier present": the least row that is missing, or 110.
-fn first_missing(column: usize, rows: [bool; 110]) -> usize
+fn first_missing(column: usize, rows: &[u8; 110]) -> usize
     requires { ⌜ column < 5 ⌝ }
-    ensures { λ r. ⌜ missingSays r ≡ complete (tableAt column) (hasRow rows) rowCount 0 ⌝ }
+    ensures { λ r. ⌜ missingSays r ≡ noneMissing (tableAt column .exchanges) (now (rows .entry)) rowCount 0 ⌝ }
 {
-    let marks = all_marks();
     let mut n = 0;
     while n < 110 {
-        if marks[5 * n + column] == 2 {
-            if !is_there(column, rows, n) {
+        if rows[n] == MISSING {
+            if !is_replaced(column, rows, n) {
                 return n;
             }
         }
@@ -215,7 +209,7 @@ pub fn decide(s: Seen) -> Conformity
         });
     }
     let rows = s.rows;
-    let n = first_missing(column, rows);
+    let n = first_missing(column, &rows);
     if n < 110 {
         return Conformity::Refused(Refusal {
             number: refusal::IDENTIFIER_MISSING,

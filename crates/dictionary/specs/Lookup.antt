@@ -1,6 +1,6 @@
--- What the code's answers say, how its table of numbers is read, and the place where it looks for an identifier.
+-- What the code's answers say, its table of numbers and how it is read, and the place where it looks for an identifier.
 use Prim.Native.Nat.{ℕ, _+_, _-_}
-use mathlib.Core.List.{List}
+use mathlib.Core.List.{List, [], _∷_}
 use lib.Dec.{eqb, ltb}
 use lib.ListN.{take, drop}
 use Rattle.refusal.specs.Pick.{pick}
@@ -15,8 +15,8 @@ use Rattle.dictionary.specs.declared.Found.{Found}
 use Rattle.dictionary.specs.declared.Found.the-variants.{At, Unknown}
 use Rattle.dictionary.specs.declared.RowFound.{RowFound}
 use Rattle.dictionary.specs.declared.RowFound.the-variants.{Is, NoRow}
-use Rattle.dictionary.specs.Dictionary.{Numbered}
-use Rattle.dictionary.specs.Rows.{row}
+use Rattle.dictionary.specs.Dictionary.{Dictionary, Numbered}
+use Rattle.dictionary.specs.Rows.{row, rows}
 
 -- the n characters of a text that start at `start`
 abbrev pub soFar : List ℕ → (start n : ℕ) → List ℕ
@@ -38,6 +38,25 @@ limitOf x = pick (eqb x 255) NoLimit (UpTo x)
 
 abbrev pub kindOf : ℕ → Kind
 kindOf x = pick (eqb x 0) Numeric (pick (eqb x 1) Alphabetic Alphanumeric)
+
+-- back to the table's numbers
+abbrev limitCode : Limit → ℕ
+limitCode (UpTo n) = n
+limitCode NoLimit = 255
+
+abbrev kindCode : Kind → ℕ
+kindCode Numeric = 0
+kindCode Alphabetic = 1
+kindCode Alphanumeric = 2
+
+-- rows as one list of numbers, five a row
+unfoldable pub flat : Dictionary → List ℕ
+flat [] = []
+flat (r ∷ d) = r .first ∷ r .second ∷ r .least ∷ limitCode (r .greatest) ∷ kindCode (r .kind) ∷ flat d
+
+-- the code's table, which is lent to who looks for a row: the numbers of all rows
+unfoldable pub rowTable : List ℕ
+rowTable = flat rows
 
 -- what stands past the end of the rows
 abbrev pub noRow : Row

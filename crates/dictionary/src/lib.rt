@@ -6,7 +6,7 @@ ghost use Prim.Native.Nat.{ℕ, _+_, _<_, _≤_};
 ghost use lib.ListN.{length, getD};
 ghost use Rattle.dictionary.specs.Dictionary.{between as isBetween, inKind, isLimit, fixed, allowed, find, rowAt};
 ghost use Rattle.dictionary.specs.Rows.{rows};
-ghost use Rattle.dictionary.specs.Lookup.{limitOf, kindOf, baseOf, digitOf, placeOf, noRow, foundSays, rowFoundSays, soFar};
+ghost use Rattle.dictionary.specs.Lookup.{limitOf, kindOf, rowTable, baseOf, digitOf, placeOf, noRow, foundSays, rowFoundSays, soFar};
 
 pub enum Kind {
     Numeric,
@@ -135,19 +135,25 @@ fn kind_of(x: u8) -> Kind
     Kind::Alphanumeric
 }
 
-// The row n of the table, which is copied once a call.
-fn row_of(n: usize) -> Row
-    requires { ⌜ n < 110 ⌝ }
+// The table of the rows, five numbers a row. Who asks has a copy, and lends it from before a loop.
+pub fn all_rows() -> [u8; 550]
+    ensures { λ r. ⌜ r ≡ rowTable ⌝ }
+{
+    table::ROWS
+}
+
+// The row n of the table.
+fn row_of(table: &[u8; 550], n: usize) -> Row
+    requires { ⌜ (now table ≡ rowTable) × (n < 110) ⌝ }
     ensures { λ r. ⌜ r ≡ getD rows n noRow ⌝ }
 {
-    let t = table::ROWS;
     let p = 5 * n;
-    let greatest = limit_of(t[p + 3]);
-    let kind = kind_of(t[p + 4]);
+    let greatest = limit_of(table[p + 3]);
+    let kind = kind_of(table[p + 4]);
     Row {
-        first: t[p],
-        second: t[p + 1],
-        least: wide(t[p + 2]),
+        first: table[p],
+        second: table[p + 1],
+        least: wide(table[p + 2]),
         greatest,
         kind,
     }
@@ -200,14 +206,15 @@ fn place_of(a: u8, b: u8) -> usize
 }
 
 // The row of an identifier: no search, but a look at the one place where it can stand.
-pub fn find_row(a: u8, b: u8) -> Found
+pub fn find_row(table: &[u8; 550], a: u8, b: u8) -> Found
+    requires { ⌜ now table ≡ rowTable ⌝ }
     ensures { λ r. ⌜ ((p : ℕ) → foundSays r p ≡ find a b 0 p rows) ⌝ }
 {
     let n = place_of(a, b);
     if 110 <= n {
         return Found::Unknown;
     }
-    let r = row_of(n);
+    let r = row_of(table, n);
     if r.first != a {
         return Found::Unknown;
     }
@@ -218,11 +225,12 @@ pub fn find_row(a: u8, b: u8) -> Found
 }
 
 // The row of a number.
-pub fn row_at(n: usize) -> RowFound
+pub fn row_at(table: &[u8; 550], n: usize) -> RowFound
+    requires { ⌜ now table ≡ rowTable ⌝ }
     ensures { λ r. ⌜ ((i : ℕ) → rowFoundSays r i ≡ rowAt rows n i) ⌝ }
 {
     if 110 <= n {
         return RowFound::NoRow;
     }
-    RowFound::Is(row_of(n))
+    RowFound::Is(row_of(table, n))
 }

@@ -28,9 +28,10 @@ fn full_fits(full: Least, n: usize) -> bool
 pub fn choose_size(largest: usize, fewest: usize, full: Least) -> Size
     ensures { λ r. ⌜ IsSize largest fewest full r ⌝ }
 {
+    let sizes = codeword::all_capacities();
     let mut k = 0;
     while k < 24 {
-        let capacity = codeword::capacity(k);
+        let capacity = sizes[k];
         if largest < capacity {
             return Size::NoneFits;
         }

@@ -8,7 +8,7 @@ ghost use lib.Seq.{slice};
 ghost use Rattle.refusal.specs.Answers.{refused};
 ghost use Rattle.refusal.specs.Limits.{limit, most-fields};
 ghost use Rattle.dictionary.specs.Rows.{rows, rowCount};
-ghost use Rattle.dictionary.specs.Lookup.{soFar};
+ghost use Rattle.dictionary.specs.Lookup.{rowTable, soFar};
 ghost use Rattle.dictionary.specs.declared.Field.{Field};
 ghost use Rattle.text.specs.Zone.{does, readData, zone};
 ghost use Rattle.text.specs.Header.{size};
@@ -176,17 +176,24 @@ fn read_record(n: usize, r: dictionary::Row, text: &[u8], p: usize, end: usize) 
     }
 }
 
-// The field whose identifier stands at p, behind `count` fields that take the rows marked in `used`.
+// The field whose identifier stands at p, behind `count` fields that take the rows marked in `used`. `table` is the dictionary's, lent.
 // "fields left to right: 17 for half an identifier, 16, 20, 27, the data left to right"
-fn read_field(text: &[u8], p: usize, end: usize, used: &[bool; 110], count: usize) -> FieldRead
-    requires { ⌜ (p < end) × (end ≤ length (now text)) × (length (now text) ≤ limit) × (count ≤ most-fields) ⌝ }
+fn read_field(
+    table: &[u8; 550],
+    text: &[u8],
+    p: usize,
+    end: usize,
+    used: &[bool; 110],
+    count: usize,
+) -> FieldRead
+    requires { ⌜ (now table ≡ rowTable) × (p < end) × (end ≤ length (now text)) × (length (now text) ≤ limit) × (count ≤ most-fields) ⌝ }
     ensures says { λ x. ⌜ ((before : List Field) → Marks (now (used .entry)) before → fieldSays x (now (text .entry)) end count before ≡ zone rows (most-fields - count) before p (slice p end (now (text .entry)))) ⌝ }
     ensures fits { λ x. ⌜ FieldFits x p end count ⌝ }
 {
     if end - p == 1 {
         return refuse_field(refusal::ZONE_ENDS_INSIDE, p);
     }
-    match dictionary::find_row(text[p], text[p + 1]) {
+    match dictionary::find_row(table, text[p], text[p + 1]) {
         dictionary::Found::Unknown => refuse_field(refusal::UNKNOWN_IDENTIFIER, p),
         dictionary::Found::At(n, r) => {
             if used[n] {
@@ -228,12 +235,13 @@ fn read_zone(text: &[u8], start: usize, end: usize) -> ZoneRead
     requires { ⌜ (start ≤ end) × (end ≤ length (now text)) × (length (now text) ≤ limit) ⌝ }
     ensures { λ x. ⌜ x ≡ zoneAnswer (zone rows most-fields [] start (slice start end (now (text .entry)))) ⌝ }
 {
+    let table = dictionary::all_rows();
     let mut used = [false; 110];
     let mut out = no_fields();
     let mut p = start;
     while p < end {
         let n = out.count;
-        match read_field(text, p, end, &used, n) {
+        match read_field(&table, text, p, end, &used, n) {
             FieldRead::Refused(w) => {
                 return ZoneRead {
                     outcome: Outcome::Refused(w),

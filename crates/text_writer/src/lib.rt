@@ -16,6 +16,7 @@ ghost use Rattle.refusal.specs.Over.{over};
 ghost use Rattle.refusal.specs.Answers.{good, refused};
 ghost use Rattle.dictionary.specs.Dictionary.{fixed};
 ghost use Rattle.dictionary.specs.Rows.{rows as theRows};
+ghost use Rattle.dictionary.specs.Lookup.{rowTable};
 ghost use Rattle.dictionary.specs.declared.Field.{Field as FieldOf};
 ghost use Rattle.text.specs.Header.{size, versionOf, headerChars, writeHeader};
 ghost use Rattle.text.specs.Signature.{lengthOfBytes};
@@ -163,13 +164,14 @@ fn room_of_data(r: Row, chars: &[u8], cut: bool, i: usize) -> Room
     Room::Takes(room_spelled(r, chars, cut))
 }
 
-// One record, whose place is its index i. `rows` are the rows of the records before it. Start and length are added as numbers of 64 bits,
-// so that the sum is exact.
-fn room_of_field(f: Field, rows: &[u16], slice: &[u8], i: usize) -> Room
+// One record, whose place is its index i. `table` is the dictionary's, lent; `rows` are the rows of the records before it. Start and
+// length are added as numbers of 64 bits, so that the sum is exact.
+fn room_of_field(table: &[u8; 550], f: Field, rows: &[u16], slice: &[u8], i: usize) -> Room
+    requires { ⌜ now table ≡ rowTable ⌝ }
     ensures says { λ x. ⌜ ((before : List FieldOf) → rowsOf before ≡ now (rows .entry) → x ≡ roomOf (writeField theRows (now (slice .entry)) before i f)) ⌝ }
     ensures small { λ x. ⌜ Below (widest + 3) x ⌝ }
 {
-    let found = dictionary::row_at(row_number(f.row));
+    let found = dictionary::row_at(table, row_number(f.row));
     let dictionary::RowFound::Is(r) = found else {
         return refuse(refusal::NO_ROW, i);
     };
@@ -190,12 +192,13 @@ fn room_of_zone(fields: Fields, slice: &[u8]) -> Room
     ensures says { λ x. ⌜ x ≡ roomOf (writeZone theRows (now (slice .entry)) [] 0 (take (fields .count) (fields .list))) ⌝ }
     ensures small { λ x. ⌜ Below (64 * (widest + 3)) x ⌝ }
 {
+    let table = dictionary::all_rows();
     let mut rows = [0u16; 64];
     let mut total = 0;
     let mut i = 0;
     while i < fields.count {
         let f = fields.list[i];
-        let one = room_of_field(f, &rows[..i], slice, i);
+        let one = room_of_field(&table, f, &rows[..i], slice, i);
         let Room::Takes(n) = one else {
             return one;
         };
@@ -278,13 +281,13 @@ fn write_spelled(r: Row, chars: &[u8], cut: bool, out: &mut [u8]) -> usize
     n + 3
 }
 
-// A record's characters over the front of the output, and how many they are.
-fn write_field(f: Field, slice: &[u8], out: &mut [u8]) -> usize
-    requires { ⌜ (f .start + f .length ≤ length (now slice)) × (length (fieldChars theRows (now slice) f) ≤ length (now out)) ⌝ }
+// A record's characters over the front of the output, and how many they are. `table` is the dictionary's, lent.
+fn write_field(table: &[u8; 550], f: Field, slice: &[u8], out: &mut [u8]) -> usize
+    requires { ⌜ (now table ≡ rowTable) × (f .start + f .length ≤ length (now slice)) × (length (fieldChars theRows (now slice) f) ≤ length (now out)) ⌝ }
     ensures is { λ x. ⌜ x ≡ length (fieldChars theRows (now (slice .entry)) f) ⌝ }
     ensures written { λ x. ⌜ now (out .exit) ≡ over (fieldChars theRows (now (slice .entry)) f) (now (out .entry)) ⌝ }
 {
-    let found = dictionary::row_at(row_number(f.row));
+    let found = dictionary::row_at(table, row_number(f.row));
     let dictionary::RowFound::Is(r) = found else {
         return 0;
     };
@@ -299,11 +302,12 @@ fn write_zone(fields: Fields, slice: &[u8], out: &mut [u8]) -> usize
     ensures is { λ x. ⌜ x ≡ length (zoneChars theRows (now (slice .entry)) (take (fields .count) (fields .list))) ⌝ }
     ensures written { λ x. ⌜ now (out .exit) ≡ over (zoneChars theRows (now (slice .entry)) (take (fields .count) (fields .list))) (now (out .entry)) ⌝ }
 {
+    let table = dictionary::all_rows();
     let mut p = 0;
     let mut i = 0;
     while i < fields.count {
         let f = fields.list[i];
-        let n = write_field(f, slice, &mut out[p..]);
+        let n = write_field(&table, f, slice, &mut out[p..]);
         p += n;
         i += 1;
     }

@@ -1,44 +1,36 @@
 -- `first_missing` meets its contract: what is missing from the row n on is what is missing at all, since no row before n is. Assumes nothing.
 use Prim.Native.Nat.{ℕ, _≤_, _-_}
-use mathlib.Core.Logic.{_⊎_, ⊎-elim}
+use mathlib.Core.Logic.{⊎-elim}
 use mathlib.Core.Path.{_≡_, refl, ap, sym, _∙_}
 use native.Mathlib.Omega.{arith}
 use borrow.Author.Tests.{not-true, not-false}
+use Rattle.conformity.specs.Conformity.{tableAt}
+use Rattle.conformity.specs.Noted.{noneMissing}
+use Rattle.conformity.proofs.Steps.{turn-ends, turn-replaced, turn-other}
 use borrow.Author.Needs.{needs}
-use Rattle.conformity.specs.Conformity.{tableAt, complete}
-use Rattle.conformity.specs.Noted.{hasRow}
-use Rattle.conformity.proofs.Steps.{turn-ends, turn-there, turn-optional}
 use Rattle.conformity.proofs.first_missing.Statement.{statement}
 use Rattle.conformity.proofs.first_missing.Tie as tie
 
 abbrev Inv-loop : tie.InvT-loop
-Inv-loop column rows marks n₀ n = (n ≤ 110) × (complete (tableAt column) (hasRow rows) (110 - n) n ≡ complete (tableAt column) (hasRow rows) 110 0)
+Inv-loop column rows n₀ n = (n ≤ 110) × (noneMissing (tableAt column .exchanges) rows (110 - n) n ≡ noneMissing (tableAt column .exchanges) rows 110 0)
 
 abbrev μ-loop : tie.MeasureT-loop
-μ-loop column rows marks n₀ n = 110 - n
-
-all-marks-requires : tie.Need-all-marks-requires Inv-loop μ-loop
-all-marks-requires c κs = search needs
+μ-loop column rows n₀ n = 110 - n
 
 loop-holds : tie.Need-loop-holds Inv-loop μ-loop
 loop-holds c = (search needs, refl)
 
-mul-if1 : tie.Need-mul-if1 Inv-loop μ-loop
-mul-if1 c = search needs
+element-copy-out-if1 : tie.Need-element-copy-out-if1 Inv-loop μ-loop
+element-copy-out-if1 c = search needs
 
-add-if1 : tie.Need-add-if1 Inv-loop μ-loop
-add-if1 c = search needs
-
-array-read-if1 : tie.Need-array-read-if1 Inv-loop μ-loop
-array-read-if1 c = search needs
-
-is-there-requires : tie.Need-is-there-requires Inv-loop μ-loop
-is-there-requires c κs = search needs
+is-replaced-requires : tie.Need-is-replaced-requires Inv-loop μ-loop
+is-replaced-requires c κs = search needs
 
 returns : tie.Need-returns Inv-loop μ-loop
 returns c =
-    let c4 = c .before .before .before .before in
-    turn-ends _ _ (c4 .before .before .args .rows) _ (c4 .before .all-marks .ensures) (c4 .before .before .pre) (omega arith) _ (c .before .before .if1 .taken) (c .before .is-there .ensures) (not-true _ (c .if2 .taken)) ∙ c4 .loop .inv .1
+    let l = c .before .before .before .before .before .loop in
+    let a = c .before .before .before .before .before .before .args in
+    turn-ends (tableAt (a .column) .exchanges) (a .rows .now) (l .n) (c .before .before .before .before .loop-test .taken) (c .before .before .if1 .taken) _ (c .before .is-replaced .ensures) (not-true _ (c .if2 .taken)) ∙ l .inv .1
 
 add-n : tie.Need-add-n Inv-loop μ-loop
 add-n c = search needs
@@ -48,20 +40,21 @@ loop-less c = search needs
 
 loop-again : tie.Need-loop-again Inv-loop μ-loop
 loop-again c =
-    let c2 = c .before .before in
-    let a = c2 .before .all-marks .ensures in
-    let p = c2 .before .before .pre in
-    let r = c2 .before .before .args .rows in (
+    let l = c .before .before .before .loop in
+    let a = c .before .before .before .before .args in
+    let xs = tableAt (a .column) .exchanges in
+    let small = c .before .before .loop-test .taken in (
       search needs,
-      ⊎-elim (λ z. turn-there _ _ r _ a p (omega arith) _ (z .0 .taken) (z .1 .ensures) (not-false _ (z .2 .left))) (λ z. turn-optional _ _ r _ a p (omega arith) (z .left)) (c .if1 .came) ∙ c2 .loop .inv .1,
+      ⊎-elim (λ z. turn-replaced xs (a .rows .now) (l .n) small (z .0 .taken) _ (z .1 .ensures) (not-false _ (z .2 .left))) (λ z. turn-other xs (a .rows .now) (l .n) small (z .left)) (c .if1 .came) ∙ l .inv .1,
     )
 
 returns-2 : tie.Need-returns-2 Inv-loop μ-loop
-unfolding complete
+unfolding noneMissing
 returns-2 c =
-    let c1 = c .before in
-    let e : c1 .loop .n ≡ 110 = omega arith in
-    ap (λ (k : ℕ). complete (tableAt (c1 .before .before .args .column)) (hasRow (c1 .before .before .args .rows)) (110 - k) k) (sym e) ∙ c1 .loop .inv .1
+    let l = c .before .loop in
+    let a = c .before .before .args in
+    let e : l .n ≡ 110 = omega (arith, l .inv .0, c .loop-test .left) in
+    ap (λ (k : ℕ). noneMissing (tableAt (a .column) .exchanges) (a .rows .now) (110 - k) k) (sym e) ∙ l .inv .1
 
 pub first-missing-spec : {M : Type 1} → statement M
 first-missing-spec =
@@ -69,12 +62,9 @@ first-missing-spec =
     (tie.spec
     Inv-loop
     μ-loop
-    all-marks-requires
     loop-holds
-    mul-if1
-    add-if1
-    array-read-if1
-    is-there-requires
+    element-copy-out-if1
+    is-replaced-requires
     returns
     add-n
     loop-less

@@ -1,7 +1,5 @@
--- `row_of` meets its contract: the table is the flat list of the rows, number by number, and its numbers from 5 * n on are the row n.
--- Assumes nothing.
-use Rattle.dictionary.specs.Rows.{rows}
-use Rattle.dictionary.proofs.Flat.{flat, table-row}
+-- `row_of` meets its contract: the table's numbers from 5 * n on are the row n. Assumes nothing.
+use Rattle.dictionary.proofs.Flat.{table-row}
 use borrow.Author.Needs.{needs}
 use Rattle.dictionary.proofs.row_of.Statement.{statement}
 use Rattle.dictionary.proofs.row_of.Tie as tie
@@ -12,8 +10,8 @@ mul-p c = search needs
 add-limit-of : tie.Need-add-limit-of
 add-limit-of c = search needs
 
-array-read-limit-of : tie.Need-array-read-limit-of
-array-read-limit-of c = search needs
+element-copy-out-limit-of : tie.Need-element-copy-out-limit-of
+element-copy-out-limit-of c = search needs
 
 limit-of-requires : tie.Need-limit-of-requires
 limit-of-requires c κs = search needs
@@ -21,33 +19,35 @@ limit-of-requires c κs = search needs
 add-kind-of : tie.Need-add-kind-of
 add-kind-of c = search needs
 
-array-read-kind-of : tie.Need-array-read-kind-of
-array-read-kind-of c = search needs
+element-copy-out-kind-of : tie.Need-element-copy-out-kind-of
+element-copy-out-kind-of c = search needs
 
 kind-of-requires : tie.Need-kind-of-requires
 kind-of-requires c κs = search needs
 
-array-read-t10 : tie.Need-array-read-t10
-array-read-t10 c = search needs
+element-copy-out-t9 : tie.Need-element-copy-out-t9
+element-copy-out-t9 c = search needs
 
-add-t7 : tie.Need-add-t7
-add-t7 c = search needs
+add-t6 : tie.Need-add-t6
+add-t6 c = search needs
 
-array-read-t17 : tie.Need-array-read-t17
-array-read-t17 c = search needs
+element-copy-out-t16 : tie.Need-element-copy-out-t16
+element-copy-out-t16 c = search needs
 
 add-wide : tie.Need-add-wide
 add-wide c = search needs
 
-array-read-wide : tie.Need-array-read-wide
-array-read-wide c = search needs
+element-copy-out-wide : tie.Need-element-copy-out-wide
+element-copy-out-wide c = search needs
 
 wide-requires : tie.Need-wide-requires
 wide-requires c κs = search needs
 
 returns : tie.Need-returns
-unfolding rows flat
-returns c = table-row _ (c .before .before .before .pre) _ _ _ (c .before .before .limit-of .ensures) (c .before .kind-of .ensures) (c .wide .ensures)
+returns c =
+    let s = c .before .before .before .before .before .before .before .before in
+    let k = c .before .before .before .before in
+    table-row (s .args .table .now) (s .pre .0) _ (s .pre .1) _ _ _ (k .before .before .limit-of .ensures) (k .kind-of .ensures) (c .wide .ensures)
 
 pub row-of-spec : {M : Type 1} → statement M
 row-of-spec =
@@ -55,15 +55,15 @@ row-of-spec =
     (tie.spec
     mul-p
     add-limit-of
-    array-read-limit-of
+    element-copy-out-limit-of
     limit-of-requires
     add-kind-of
-    array-read-kind-of
+    element-copy-out-kind-of
     kind-of-requires
-    array-read-t10
-    add-t7
-    array-read-t17
+    element-copy-out-t9
+    add-t6
+    element-copy-out-t16
     add-wide
-    array-read-wide
+    element-copy-out-wide
     wide-requires
     returns)

@@ -18,7 +18,7 @@ returns c =
     let s = c .before .before .before in
     let a = s .args in (
       (λ before m. ap (λ x. fieldSays x (a .text .now) (a .end) (a .count) before) (c .refuse-field .ensures)
-          ∙ on-half (a .text .now) (a .p) (a .end) (a .count) (a .used .now) (s .pre .0) (s .pre .1) (s .pre .3) (c .before .if1 .taken) before m),
+          ∙ on-half (a .text .now) (a .p) (a .end) (a .count) (a .used .now) (s .pre .1) (s .pre .2) (s .pre .4) (c .before .if1 .taken) before m),
       subst (λ x. FieldFits x (a .p) (a .end) (a .count)) (sym (c .refuse-field .ensures)) tt,
     )
 
@@ -50,7 +50,7 @@ element-copy-out-if2 c =
     let s = i .before .before in
     let a = s .args in
     let g = c .before .n .given in
-    on-row (a .text .now) (a .p) (a .end) (a .count) (a .used .now) (s .pre .0) (s .pre .1) (s .pre .3) (i .if1 .left) _ (f .find-row .ensures) (g .0 .0) (g .0 .1 .0) (g .1)
+    on-row (a .text .now) (a .p) (a .end) (a .count) (a .used .now) (s .pre .1) (s .pre .2) (s .pre .4) (i .if1 .left) _ (f .find-row .ensures) (g .0 .0) (g .0 .1 .0) (g .1)
 
 refuse-field-requires-3 : tie.Need-refuse-field-requires-3
 refuse-field-requires-3 c κs = search needs
@@ -63,7 +63,7 @@ returns-2 c =
     let s = i .before .before in
     let a = s .args in (
       (λ before m. ap (λ x. fieldSays x (a .text .now) (a .end) (a .count) before) (c .refuse-field3 .ensures)
-          ∙ on-repeated (a .text .now) (a .p) (a .end) (a .count) (a .used .now) (s .pre .0) (s .pre .1) (s .pre .3) (i .if1 .left) _ (f .find-row .ensures) (g .0 .0) (g .0 .1 .0) (g .1) (c .before .if2 .taken) before m),
+          ∙ on-repeated (a .text .now) (a .p) (a .end) (a .count) (a .used .now) (s .pre .1) (s .pre .2) (s .pre .4) (i .if1 .left) _ (f .find-row .ensures) (g .0 .0) (g .0 .1 .0) (g .1) (c .before .if2 .taken) before m),
       subst (λ x. FieldFits x (a .p) (a .end) (a .count)) (sym (c .refuse-field3 .ensures)) tt,
     )
 
@@ -78,7 +78,7 @@ returns-3 c =
     let s = i .before .before in
     let a = s .args in (
       (λ before m. ap (λ x. fieldSays x (a .text .now) (a .end) (a .count) before) (c .refuse-field4 .ensures)
-          ∙ on-full (a .text .now) (a .p) (a .end) (a .count) (a .used .now) (s .pre .0) (s .pre .1) (s .pre .3) (i .if1 .left) _ (f .find-row .ensures) (g .0 .0) (g .0 .1 .0) (g .1) (c .before .before .if2 .left) (c .before .if3 .taken) before m),
+          ∙ on-full (a .text .now) (a .p) (a .end) (a .count) (a .used .now) (s .pre .1) (s .pre .2) (s .pre .4) (i .if1 .left) _ (f .find-row .ensures) (g .0 .0) (g .0 .1 .0) (g .1) (c .before .before .if2 .left) (c .before .if3 .taken) before m),
       subst (λ x. FieldFits x (a .p) (a .end) (a .count)) (sym (c .refuse-field4 .ensures)) tt,
     )
 
@@ -90,9 +90,9 @@ read-record-requires c κs =
     let s = i .before .before in
     let a = s .args in (
       omega (arith, s .pre, i .if1 .left),
-      s .pre .1,
       s .pre .2,
-      on-row (a .text .now) (a .p) (a .end) (a .count) (a .used .now) (s .pre .0) (s .pre .1) (s .pre .3) (i .if1 .left) _ (f .find-row .ensures) (g .0 .0) (g .0 .1 .0) (g .1),
+      s .pre .3,
+      on-row (a .text .now) (a .p) (a .end) (a .count) (a .used .now) (s .pre .1) (s .pre .2) (s .pre .4) (i .if1 .left) _ (f .find-row .ensures) (g .0 .0) (g .0 .1 .0) (g .1),
     )
 
 returns-4 : tie.Need-returns-4
@@ -102,7 +102,7 @@ returns-4 c =
     let s = i .before .before in
     let a = s .args in (
       (λ before m. ap (λ x. fieldSays x (a .text .now) (a .end) (a .count) before) (c .refuse-field2 .ensures)
-          ∙ on-unknown (a .text .now) (a .p) (a .end) (a .count) (a .used .now) (s .pre .0) (s .pre .1) (s .pre .3) (i .if1 .left) _ (f .find-row .ensures) (c .before .enum-told .given .1) before m),
+          ∙ on-unknown (a .text .now) (a .p) (a .end) (a .count) (a .used .now) (s .pre .1) (s .pre .2) (s .pre .4) (i .if1 .left) _ (f .find-row .ensures) (c .before .enum-told .given .1) before m),
       subst (λ x. FieldFits x (a .p) (a .end) (a .count)) (sym (c .refuse-field2 .ensures)) tt,
     )
 
@@ -113,8 +113,8 @@ returns-5 c =
     let i = f .before .before .before in
     let s = i .before .before in
     let a = s .args in (
-      on-one (a .text .now) (a .p) (a .end) (a .count) (a .used .now) (s .pre .0) (s .pre .1) (s .pre .3) (i .if1 .left) _ (f .find-row .ensures) (g .0 .0) (g .0 .1 .0) (g .1) (c .before .before .if2 .left) (c .before .if3 .left) (c .read-record .result) (c .read-record .ensures .0),
-      one-fits (c .read-record .result) (a .p) (a .end) (a .count) (omega (arith, s .pre .3, c .before .if3 .left)) (c .read-record .ensures .1),
+      on-one (a .text .now) (a .p) (a .end) (a .count) (a .used .now) (s .pre .1) (s .pre .2) (s .pre .4) (i .if1 .left) _ (f .find-row .ensures) (g .0 .0) (g .0 .1 .0) (g .1) (c .before .before .if2 .left) (c .before .if3 .left) (c .read-record .result) (c .read-record .ensures .0),
+      one-fits (c .read-record .result) (a .p) (a .end) (a .count) (omega (arith, s .pre .4, c .before .if3 .left)) (c .read-record .ensures .1),
     )
 
 pub read-field-spec : {M : Type 1} → statement M

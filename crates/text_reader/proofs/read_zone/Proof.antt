@@ -15,25 +15,29 @@ use Rattle.text_reader.proofs.read_zone.Statement.{statement}
 use Rattle.text_reader.proofs.read_zone.Tie as tie
 
 abbrev Inv-loop : tie.InvT-loop
-Inv-loop text start end used₀ out₀ p₀ used out p = (p ≤ end) × Filled text start end used out p
+Inv-loop text start end table used₀ out₀ p₀ used out p = (p ≤ end) × Filled text start end used out p
 
 abbrev μ-loop : tie.MeasureT-loop
-μ-loop text start end used₀ out₀ p₀ used out p = end - p
+μ-loop text start end table used₀ out₀ p₀ used out p = end - p
+
+all-rows-requires : tie.Need-all-rows-requires Inv-loop μ-loop
+all-rows-requires c κs = search needs
 
 no-fields-requires : tie.Need-no-fields-requires Inv-loop μ-loop
 no-fields-requires c κs = search needs
 
 loop-holds : tie.Need-loop-holds Inv-loop μ-loop
 loop-holds c =
-    let a = c .before .before .args in
+    let a = c .before .before .before .args in
     (search needs, subst (λ (o : Fields). Filled (a .text .now) (a .start) (a .end) (replicate rowCount false) o (a .start)) (sym (c .no-fields .ensures)) (filled-start (a .text .now) (a .start) (a .end)))
 
 read-field-requires : tie.Need-read-field-requires Inv-loop μ-loop
 read-field-requires c κs =
-    let l = c .before .before .loop in
-    let s = c .before .before .before .before .before in
+    let l = c .before .before .before .loop in
+    let t = c .before .before .before .before .before in
+    let s = t .before .before in
     let n = filled-count _ _ _ _ _ _ (l .inv .1) in
-    (c .before .loop-test .taken, s .pre .1, s .pre .2, omega (arith, n, l .inv .1 .few))
+    (t .all-rows .ensures, c .before .before .loop-test .taken, s .pre .1, s .pre .2, omega (arith, n, l .inv .1 .few))
 
 enum-known-w : tie.Need-enum-known-w Inv-loop μ-loop
 enum-known-w c = search needs
@@ -44,7 +48,7 @@ no-fields-requires-2 c κs = search needs
 returns : tie.Need-returns Inv-loop μ-loop
 returns c =
     let r = c .before .before .before .before in
-    let l = r .before .before .before .loop in
+    let l = r .before .before .before .before .loop in
     let g = c .before .before .w .given in
     (λ i. record { outcome = Refused (g .0 .0); fields = c .no-fields2 .ensures i })
     ∙ ap zoneAnswer (filled-refused _ _ _ _ (l .out) (l .p) (l .inv .1) (r .read-field .result) (r .read-field .ensures .0) (g .0 .0) (g .1))
@@ -55,8 +59,8 @@ enum-known-x c = search needs
 mul-x : tie.Need-mul-x Inv-loop μ-loop
 mul-x c =
     let r = c .before .before .before in
-    let l = r .before .before .before .loop in
-    let a = r .before .before .before .before .before .before .args in
+    let l = r .before .before .before .before .loop in
+    let a = r .before .before .before .before .before .before .before .before .args in
     let g = c .before .x .given in
     let w = subst (λ y. FieldFits y (l .p) (a .end) (l .out .count)) (g .1) (r .read-field .ensures .1) in
     omega (arith, w .3)
@@ -64,8 +68,8 @@ mul-x c =
 element-set-from-x : tie.Need-element-set-from-x Inv-loop μ-loop
 element-set-from-x c =
     let r = c .before .before .before in
-    let l = r .before .before .before .loop in
-    let a = r .before .before .before .before .before .before .args in
+    let l = r .before .before .before .before .loop in
+    let a = r .before .before .before .before .before .before .before .before .args in
     let g = c .before .x .given in
     let w = subst (λ y. FieldFits y (l .p) (a .end) (l .out .count)) (g .1) (r .read-field .ensures .1) in
     let n = filled-size _ _ _ _ _ _ (l .inv .1) in
@@ -74,8 +78,8 @@ element-set-from-x c =
 add-out : tie.Need-add-out Inv-loop μ-loop
 add-out c =
     let r = c .before .before .before in
-    let l = r .before .before .before .loop in
-    let a = r .before .before .before .before .before .before .args in
+    let l = r .before .before .before .before .loop in
+    let a = r .before .before .before .before .before .before .before .before .args in
     let g = c .before .x .given in
     let w = subst (λ y. FieldFits y (l .p) (a .end) (l .out .count)) (g .1) (r .read-field .ensures .1) in
     omega (arith, w .3)
@@ -83,8 +87,8 @@ add-out c =
 cast-row : tie.Need-cast-row Inv-loop μ-loop
 cast-row c =
     let r = c .before .before .before .before in
-    let l = r .before .before .before .loop in
-    let a = r .before .before .before .before .before .before .args in
+    let l = r .before .before .before .before .loop in
+    let a = r .before .before .before .before .before .before .before .before .args in
     let g = c .before .before .x .given in
     let w = subst (λ y. FieldFits y (l .p) (a .end) (l .out .count)) (g .1) (r .read-field .ensures .1) in
     omega (arith, w .2)
@@ -92,8 +96,8 @@ cast-row c =
 array-write-used : tie.Need-array-write-used Inv-loop μ-loop
 array-write-used c =
     let r = c .before .before .before .before in
-    let l = r .before .before .before .loop in
-    let a = r .before .before .before .before .before .before .args in
+    let l = r .before .before .before .before .loop in
+    let a = r .before .before .before .before .before .before .before .before .args in
     let g = c .before .before .x .given in
     let w = subst (λ y. FieldFits y (l .p) (a .end) (l .out .count)) (g .1) (r .read-field .ensures .1) in
     w .2
@@ -101,8 +105,8 @@ array-write-used c =
 loop-less : tie.Need-loop-less Inv-loop μ-loop
 loop-less c =
     let r = c .before .before .before .before in
-    let l = r .before .before .before .loop in
-    let a = r .before .before .before .before .before .before .args in
+    let l = r .before .before .before .before .loop in
+    let a = r .before .before .before .before .before .before .before .before .args in
     let g = c .before .before .x .given in
     let w = subst (λ y. FieldFits y (l .p) (a .end) (l .out .count)) (g .1) (r .read-field .ensures .1) in
     omega (arith, w .0, w .1)
@@ -110,8 +114,8 @@ loop-less c =
 loop-again : tie.Need-loop-again Inv-loop μ-loop
 loop-again c =
     let r = c .before .before .before .before in
-    let l = r .before .before .before .loop in
-    let a = r .before .before .before .before .before .before .args in
+    let l = r .before .before .before .before .loop in
+    let a = r .before .before .before .before .before .before .before .before .args in
     let g = c .before .before .x .given in
     let w = subst (λ y. FieldFits y (l .p) (a .end) (l .out .count)) (g .1) (r .read-field .ensures .1) in
     (w .1, filled-more _ _ _ _ (l .out) (l .p) (l .inv .1) (r .read-field .result) (r .read-field .ensures .0) (g .0 .0) (g .0 .1 .0) (g .1) (w .2) (w .3))
@@ -127,6 +131,7 @@ read-zone-spec =
     (tie.spec
     Inv-loop
     μ-loop
+    all-rows-requires
     no-fields-requires
     loop-holds
     read-field-requires

@@ -47,7 +47,7 @@ part-write-spelled-start : tie.Need-part-write-spelled-start
 part-write-spelled-start c = omega (arith, c .wide2 .ensures, c .before .wide .ensures)
 
 part-write-spelled-end : tie.Need-part-write-spelled-end
-part-write-spelled-end c = omega (arith, c .wide2 .ensures, c .before .wide .ensures, c .before .before .before .before .before .before .before .before .before .pre .0)
+part-write-spelled-end c = omega (arith, c .wide2 .ensures, c .before .wide .ensures, c .before .before .before .before .before .before .before .before .before .pre .1)
 
 write-spelled-requires : tie.Need-write-spelled-requires
 write-spelled-requires c κs =
@@ -55,8 +55,8 @@ write-spelled-requires c κs =
     let r = c .before .before .before .before .before .found .given .0 .0 in
     let p = part-is (s .slice .now) (c .before .before .before .wide .ensures .0) (c .before .before .wide2 .ensures .0) in
     let e = chars-row theRows (s .slice .now) (s .f) (row-is (s .f .row) _ 0 (c .before .before .before .before .before .before .before .before .row-number .ensures) (c .before .before .before .before .before .before .before .row-at .ensures) (c .before .before .before .before .before .found .given .1)) in (
-      omega (arith, ap length p, data-length (s .slice .now) (s .f) (c .before .before .before .before .before .before .before .before .before .before .before .pre .0), c .before .before .wide2 .ensures),
-      omega (arith, ap (λ (l : List ℕ). length (spelled r l (s .f .cut))) p, ap length e, c .before .before .before .before .before .before .before .before .before .before .before .pre .1),
+      omega (arith, ap length p, data-length (s .slice .now) (s .f) (c .before .before .before .before .before .before .before .before .before .before .before .pre .1), c .before .before .wide2 .ensures),
+      omega (arith, ap (λ (l : List ℕ). length (spelled r l (s .f .cut))) p, ap length e, c .before .before .before .before .before .before .before .before .before .before .before .pre .2),
     )
 
 same-length : tie.Need-same-length

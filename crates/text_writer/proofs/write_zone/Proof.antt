@@ -17,16 +17,19 @@ use Rattle.text_writer.proofs.write_zone.Statement.{statement}
 use Rattle.text_writer.proofs.write_zone.Tie as tie
 
 abbrev Inv-loop : tie.InvT-loop
-Inv-loop slice out₀ fields p₀ i₀ out p i =
+Inv-loop slice out₀ fields table p₀ i₀ out p i =
     (i ≤ fields .count) × (p ≡ length (zoneChars theRows slice (take i (take (fields .count) (fields .list)))))
     × (out ≡ over (zoneChars theRows slice (take i (take (fields .count) (fields .list)))) out₀) × (length out ≡ length out₀)
 
 abbrev μ-loop : tie.MeasureT-loop
-μ-loop slice out₀ fields p₀ i₀ out p i = fields .count - i
+μ-loop slice out₀ fields table p₀ i₀ out p i = fields .count - i
+
+all-rows-requires : tie.Need-all-rows-requires Inv-loop μ-loop
+all-rows-requires c κs = search needs
 
 loop-holds : tie.Need-loop-holds Inv-loop μ-loop
 loop-holds c =
-    let s = c .before .before .args in
+    let s = c .before .before .before .args in
     (omega arith, ap length (sym (zone-none theRows (s .slice .now))), ap (λ (x : List ℕ). over x (s .out .now)) (sym (zone-none theRows (s .slice .now))), refl)
 
 mul-f : tie.Need-mul-f Inv-loop μ-loop
@@ -37,11 +40,12 @@ element-copy-out-f c = search needs
 
 sub-write-field : tie.Need-sub-write-field Inv-loop μ-loop
 sub-write-field c =
-    let s = c .before .before .before .before .before .args in
-    let l = c .before .before .loop in
-    let few = in-list (s .t1) _ (c .before .before .before .before .before .good .0) (c .before .before .before .before .before .pre .0) in
-    let fits = zone-fits theRows (s .slice .now) (s .t1 .list) (s .t1 .count) few (l .i) (c .before .loop-test .taken) in
-    omega (arith, fits, c .before .before .before .before .before .pre .2, l .inv .1, l .inv .3)
+    let start = c .before .before .before .before .before .before .before in
+    let s = start .args in
+    let l = c .before .before .before .loop in
+    let few = in-list (s .t1) _ (start .good .0) (start .pre .0) in
+    let fits = zone-fits theRows (s .slice .now) (s .t1 .list) (s .t1 .count) few (l .i) (c .before .before .loop-test .taken) in
+    omega (arith, fits, start .pre .2, l .inv .1, l .inv .3)
 
 part-write-field-start : tie.Need-part-write-field-start Inv-loop μ-loop
 part-write-field-start c = sub-write-field c
@@ -51,19 +55,24 @@ part-write-field-end c = omega arith
 
 write-field-requires : tie.Need-write-field-requires Inv-loop μ-loop
 write-field-requires c κs =
-    let s = c .before .before .before .before .before .before .args in
-    let l = c .before .before .before .loop in
-    let few = in-list (s .t1) _ (c .before .before .before .before .before .before .good .0) (c .before .before .before .before .before .before .pre .0) in
-    let fits = zone-fits theRows (s .slice .now) (s .t1 .list) (s .t1 .count) few (l .i) (c .before .before .loop-test .taken) in
-    (inside-at (length (s .slice .now)) (s .t1 .list) (s .t1 .count) (l .i) few (c .before .before .loop-test .taken) (c .before .before .before .before .before .before .pre .1), omega (arith, fits, c .before .before .before .before .before .before .pre .2, l .inv .1, l .inv .3, part-length (l .out) (l .p)))
+    let start = c .before .before .before .before .before .before .before .before in
+    let s = start .args in
+    let l = c .before .before .before .before .loop in
+    let few = in-list (s .t1) _ (start .good .0) (start .pre .0) in
+    let fits = zone-fits theRows (s .slice .now) (s .t1 .list) (s .t1 .count) few (l .i) (c .before .before .before .loop-test .taken) in (
+      c .before .before .before .before .before .all-rows .ensures,
+      inside-at (length (s .slice .now)) (s .t1 .list) (s .t1 .count) (l .i) few (c .before .before .before .loop-test .taken) (start .pre .1),
+      omega (arith, fits, start .pre .2, l .inv .1, l .inv .3, part-length (l .out) (l .p)),
+    )
 
 add-p : tie.Need-add-p Inv-loop μ-loop
 add-p c =
-    let s = c .before .before .before .before .before .before .before .before .before .args in
-    let l = c .before .before .before .before .before .before .loop in
-    let few = in-list (s .t1) _ (c .before .before .before .before .before .before .before .before .before .good .0) (c .before .before .before .before .before .before .before .before .before .pre .0) in
-    let fits = zone-fits theRows (s .slice .now) (s .t1 .list) (s .t1 .count) few (l .i) (c .before .before .before .before .before .loop-test .taken) in
-    omega (arith, fits, c .before .before .before .before .before .before .before .before .before .pre .2, l .inv .1, c .before .before .write-field .ensures .0)
+    let start = c .before .before .before .before .before .before .before .before .before .before .before in
+    let s = start .args in
+    let l = c .before .before .before .before .before .before .before .loop in
+    let few = in-list (s .t1) _ (start .good .0) (start .pre .0) in
+    let fits = zone-fits theRows (s .slice .now) (s .t1 .list) (s .t1 .count) few (l .i) (c .before .before .before .before .before .before .loop-test .taken) in
+    omega (arith, fits, start .pre .2, l .inv .1, c .before .before .write-field .ensures .0)
 
 add-i : tie.Need-add-i Inv-loop μ-loop
 add-i c = search needs
@@ -73,10 +82,11 @@ loop-less c = search needs
 
 loop-again : tie.Need-loop-again Inv-loop μ-loop
 loop-again c =
-    let s = c .before .before .before .before .before .before .before .before .before .args in
-    let l = c .before .before .before .before .before .before .loop in
-    let few = in-list (s .t1) _ (c .before .before .before .before .before .before .before .before .before .good .0) (c .before .before .before .before .before .before .before .before .before .pre .0) in
-    let at = c .before .before .before .before .before .loop-test .taken in (
+    let start = c .before .before .before .before .before .before .before .before .before .before .before in
+    let s = start .args in
+    let l = c .before .before .before .before .before .before .before .loop in
+    let few = in-list (s .t1) _ (start .good .0) (start .pre .0) in
+    let at = c .before .before .before .before .before .before .loop-test .taken in (
       omega (arith, at),
       omega (arith, more-long theRows (s .slice .now) (s .t1 .list) (s .t1 .count) few (l .i) at, l .inv .1, c .before .before .write-field .ensures .0),
       zone-over theRows (s .slice .now) (s .t1 .list) (s .t1 .count) few (l .i) at (s .out .now) (l .out) _ (l .p) (l .inv .1) (l .inv .2) (c .before .before .write-field .ensures .1),
@@ -88,9 +98,10 @@ same-length c = omega (arith, c .before .loop .inv .3)
 
 returns : tie.Need-returns Inv-loop μ-loop
 returns c =
-    let s = c .before .before .before .before .args in
+    let start = c .before .before .before .before .before in
+    let s = start .args in
     let l = c .before .loop in
-    let few = in-list (s .t1) _ (c .before .before .before .before .good .0) (c .before .before .before .before .pre .0) in
+    let few = in-list (s .t1) _ (start .good .0) (start .pre .0) in
     let all = first-all (s .t1 .list) (s .t1 .count) few (l .i) (c .loop-test .left) in
     (l .inv .1 ∙ ap (λ (x : List Field). length (zoneChars theRows (s .slice .now) x)) all, l .inv .2 ∙ ap (λ (x : List Field). over (zoneChars theRows (s .slice .now) x) (s .out .now)) all)
 
@@ -100,6 +111,7 @@ write-zone-spec =
     (tie.spec
     Inv-loop
     μ-loop
+    all-rows-requires
     loop-holds
     mul-f
     element-copy-out-f
