@@ -4,8 +4,10 @@
 mod ddoc;
 mod lists;
 mod paper;
+mod run;
 
 use lists::Dice;
+use run::{Run, Tally as _};
 
 const USUAL_SEED: u64 = 20_240_816;
 /// Bytes before and behind the lent text that nobody may touch.
@@ -23,9 +25,13 @@ struct Tally {
     differences: usize,
 }
 
-impl Tally {
-    fn lists(&self) -> usize {
+impl run::Tally for Tally {
+    fn cases(&self) -> usize {
         self.answers.iter().sum()
+    }
+
+    fn differences(&self) -> usize {
+        self.differences
     }
 
     fn add(&mut self, other: &Tally) {
@@ -33,6 +39,10 @@ impl Tally {
             *mine += theirs;
         }
         self.differences += other.differences;
+    }
+
+    fn told(&self) -> String {
+        format!("{} lists, {} accepted, refused {}", self.cases(), self.answers[0], run::counts(1..7, &self.answers))
     }
 }
 
@@ -44,6 +54,14 @@ struct Bench {
     expected: Vec<u8>,
     input: Vec<u8>,
     tally: Tally,
+}
+
+impl run::Compares for Bench {
+    type Counts = Tally;
+
+    fn tally(&mut self) -> &mut Tally {
+        &mut self.tally
+    }
 }
 
 impl Bench {
@@ -101,57 +119,19 @@ impl Bench {
     }
 }
 
-struct Run {
-    dice: Dice,
-    bench: Bench,
-    all: Tally,
-    passed: usize,
-    failed: usize,
-}
-
-impl Run {
-    /// One group of lists, one test.
-    fn group(&mut self, name: &str, lists: impl FnOnce(&mut Dice, &mut Bench)) {
-        self.bench.tally = Tally::default();
-        lists(&mut self.dice, &mut self.bench);
-        let tally = self.bench.tally.clone();
-        let good = tally.differences == 0 && tally.lists() > 0;
-        self.report(good, name, &tally);
-        self.all.add(&tally);
-    }
-
-    fn report(&mut self, good: bool, name: &str, tally: &Tally) {
-        let refused: Vec<String> = (1..7).map(|number| format!("{}: {}", number, tally.answers[number])).collect();
-        println!(
-            "{} {}: {} lists, {} accepted, refused {}; {} differ",
-            if good { "ok" } else { "FAILED" },
-            name,
-            tally.lists(),
-            tally.answers[0],
-            refused.join(", "),
-            tally.differences
-        );
-        if good {
-            self.passed += 1;
-        } else {
-            self.failed += 1;
-        }
-    }
-
-    /// The lists must have reached every answer, or the comparison says little.
-    fn coverage(&mut self) {
-        let all = self.all.clone();
-        let often = all.answers[1..].iter().all(|&count| count >= LEAST_REFUSED);
-        let accepted = 100 * all.answers[0] >= LEAST_ACCEPTED_PERCENT * all.lists();
-        self.report(often && accepted, "every answer occurs often", &all);
-    }
+/// The lists must have reached every answer, or the comparison says little.
+fn coverage(run: &mut Run<Bench>) {
+    let all = run.all.clone();
+    let often = all.answers[1..].iter().all(|&count| count >= LEAST_REFUSED);
+    let accepted = 100 * all.answers[0] >= LEAST_ACCEPTED_PERCENT * all.cases();
+    run.report(often && accepted, "every answer occurs often", &all);
 }
 
 fn some_room(dice: &mut Dice) -> usize {
     dice.one_of(&[1000, 1000, 1001, 1558])
 }
 
-fn random_lists(run: &mut Run) {
+fn random_lists(run: &mut Run<Bench>) {
     run.group("noise of every capacity", |dice, bench| {
         for capacity in paper::CAPACITIES {
             for _ in 0..2_000 {
@@ -175,7 +155,7 @@ fn random_lists(run: &mut Run) {
     });
 }
 
-fn walks(run: &mut Run) {
+fn walks(run: &mut Run<Bench>) {
     run.group("walks", |dice, bench| {
         for _ in 0..200_000 {
             let capacity = dice.capacity();
@@ -212,7 +192,7 @@ fn walks(run: &mut Run) {
     });
 }
 
-fn limits(run: &mut Run) {
+fn limits(run: &mut Run<Bench>) {
     run.group("texts of 998 to 1,002 characters", |dice, bench| {
         for characters in 998..=1002 {
             for kind in 0..lists::ENDINGS {
@@ -226,7 +206,7 @@ fn limits(run: &mut Run) {
     });
 }
 
-fn corners(run: &mut Run) {
+fn corners(run: &mut Run<Bench>) {
     run.group("all lists of 3 corner codewords", |dice, bench| {
         for a in lists::CORNERS {
             for b in lists::CORNERS {
@@ -246,7 +226,7 @@ fn corners(run: &mut Run) {
     }
 }
 
-fn rooms(run: &mut Run) {
+fn rooms(run: &mut Run<Bench>) {
     for room in [0, 1, 999, 1000, 1001, 1558] {
         run.group(&format!("room {}", room), |dice, bench| {
             for turn in 0..10_000 {
@@ -263,7 +243,7 @@ fn rooms(run: &mut Run) {
     }
 }
 
-fn long_runs(run: &mut Run) {
+fn long_runs(run: &mut Run<Bench>) {
     run.group("1,558 codewords 230 254 in turn", |dice, bench| {
         let list: Vec<u8> = (0..1558).map(|place| if place % 2 == 0 { 230 } else { 254 }).collect();
         bench.compare(dice, &list, 1000);
@@ -282,25 +262,13 @@ fn long_runs(run: &mut Run) {
 }
 
 fn main() {
-    let seed = match std::env::args().nth(1).map(|word| word.parse()) {
-        None => USUAL_SEED,
-        Some(Ok(seed)) => seed,
-        Some(Err(_)) => {
-            eprintln!("reading: the seed has to be a number from 0 to {}", u64::MAX);
-            std::process::exit(2);
-        }
-    };
-    println!("seed {}", seed);
-    let mut dice = Dice(seed);
-    let bench = Bench::new(&mut dice);
-    let mut run = Run { dice, bench, all: Tally::default(), passed: 0, failed: 0 };
+    let mut run = Run::new(run::given_seed("reading", USUAL_SEED), Bench::new);
     random_lists(&mut run);
     walks(&mut run);
     limits(&mut run);
     corners(&mut run);
     rooms(&mut run);
     long_runs(&mut run);
-    run.coverage();
-    println!("{} passed, {} failed", run.passed, run.failed);
-    std::process::exit(if run.failed == 0 { 0 } else { 1 });
+    coverage(&mut run);
+    run.end();
 }

@@ -9,12 +9,14 @@ mod messages;
 mod paper;
 mod paper_rows;
 mod paper_text;
+mod run;
 mod texts_bench;
 
 use lists::{noise, Dice};
 use messages::Laid;
 use paper_rows::ROW_COUNT;
-use texts_bench::{Bench, Tally};
+use run::{Run, Tally as _};
+use texts_bench::Bench;
 
 const USUAL_SEED: u64 = 20_240_816;
 /// Each refusal has to be met this often, each row accepted this often, and accepted cases have to be this part of all.
@@ -26,62 +28,22 @@ const READING: [usize; 18] = [5, 6, 10, 11, 12, 13, 14, 15, 16, 17, 18, 19, 20, 
 const WRITING: [usize; 13] = [5, 6, 12, 13, 14, 18, 19, 20, 21, 25, 26, 27, 31];
 const CONFORMITY: [usize; 3] = [28, 29, 30];
 
-struct Run {
-    dice: Dice,
-    bench: Bench,
-    /// The cases of the function that is looked at.
-    all: Tally,
-    passed: usize,
-    failed: usize,
-}
-
-impl Run {
-    /// One group of cases, one test.
-    fn group(&mut self, name: &str, cases: impl FnOnce(&mut Dice, &mut Bench)) {
-        self.bench.tally = Tally::new();
-        cases(&mut self.dice, &mut self.bench);
-        let tally = self.bench.tally.clone();
-        let good = tally.differences == 0 && tally.cases() > 0;
-        self.report(good, name, &tally);
-        self.all.add(&tally);
-    }
-
-    fn report(&mut self, good: bool, name: &str, tally: &Tally) {
-        let met = (1..tally.answers.len()).filter(|&number| tally.answers[number] > 0);
-        let refused: Vec<String> = met.map(|number| format!("{}: {}", number, tally.answers[number])).collect();
-        println!(
-            "{} {}: {} cases, {} accepted, refused {}; {} differ",
-            if good { "ok" } else { "FAILED" },
-            name,
-            tally.cases(),
-            tally.answers[0],
-            if refused.is_empty() { "none".to_string() } else { refused.join(", ") },
-            tally.differences
-        );
-        if good {
-            self.passed += 1;
-        } else {
-            self.failed += 1;
-        }
-    }
-
-    /// The cases must have reached every answer and every row, or the comparison says little.
-    fn coverage(&mut self, what: &str, refusals: &[usize], rows: &[usize]) {
-        let all = std::mem::replace(&mut self.all, Tally::new());
-        let often = refusals.iter().all(|&number| all.answers[number] >= LEAST_REFUSED);
-        let no_others = all.answers.iter().sum::<usize>()
-            == all.answers[0] + refusals.iter().map(|&number| all.answers[number]).sum::<usize>();
-        let accepted = 100 * all.answers[0] >= LEAST_ACCEPTED_PERCENT * all.cases();
-        let each_row = rows.iter().all(|&row| all.rows[row] >= LEAST_OF_A_ROW);
-        self.report(often && no_others && accepted && each_row, &format!("{}: every answer occurs often", what), &all);
-    }
+/// The cases of a function must have reached every answer and every row, or the comparison says little.
+fn coverage(run: &mut Run<Bench>, what: &str, refusals: &[usize], rows: &[usize]) {
+    let all = std::mem::take(&mut run.all);
+    let often = refusals.iter().all(|&number| all.answers[number] >= LEAST_REFUSED);
+    let no_others = all.answers.iter().sum::<usize>()
+        == all.answers[0] + refusals.iter().map(|&number| all.answers[number]).sum::<usize>();
+    let accepted = 100 * all.answers[0] >= LEAST_ACCEPTED_PERCENT * all.cases();
+    let each_row = rows.iter().all(|&row| all.rows[row] >= LEAST_OF_A_ROW);
+    run.report(often && no_others && accepted && each_row, &format!("{}: every answer occurs often", what), &all);
 }
 
 fn some_room(dice: &mut Dice) -> usize {
     dice.one_of(&[64, 64, 64, 65, 100])
 }
 
-fn reading(run: &mut Run) {
+fn reading(run: &mut Run<Bench>) {
     run.group("read: messages", |dice, bench| {
         for _ in 0..40_000 {
             let text = messages::some_draft(dice).text();
@@ -124,7 +86,7 @@ fn reading(run: &mut Run) {
     });
 }
 
-fn damaged_reading(run: &mut Run) {
+fn damaged_reading(run: &mut Run<Bench>) {
     run.group("read: characters and parts changed", |dice, bench| {
         for _ in 0..80_000 {
             let mut text = messages::some_draft(dice).text();
@@ -225,7 +187,7 @@ fn damaged_reading(run: &mut Run) {
     });
 }
 
-fn signatures(run: &mut Run) {
+fn signatures(run: &mut Run<Bench>) {
     run.group("read: signatures of wrong length, spare bits, a 29 in them", |dice, bench| {
         for turn in 0..30_000 {
             let Laid { mut text, mark, .. } = messages::draft(dice, turn % 3).laid();
@@ -249,7 +211,7 @@ fn signatures(run: &mut Run) {
     });
 }
 
-fn lengths(run: &mut Run) {
+fn lengths(run: &mut Run<Bench>) {
     run.group("read: texts of 0 to 1,002 characters, cut off or noise", |dice, bench| {
         let alphabet = b"0126ABDC\x1d\x1e\x1f 9Z_K";
         for length in 0..=1002 {
@@ -292,7 +254,7 @@ fn lengths(run: &mut Run) {
     });
 }
 
-fn writing(run: &mut Run) {
+fn writing(run: &mut Run<Bench>) {
     run.group("write: messages", |dice, bench| {
         for _ in 0..50_000 {
             let draft = messages::some_draft(dice);
@@ -341,7 +303,7 @@ fn writing(run: &mut Run) {
     });
 }
 
-fn damaged_writing(run: &mut Run) {
+fn damaged_writing(run: &mut Run<Bench>) {
     run.group("write: one to three things spoilt", |dice, bench| {
         for turn in 0..80_000 {
             let mut order = match turn % 4 {
@@ -399,7 +361,7 @@ fn damaged_writing(run: &mut Run) {
     });
 }
 
-fn conformity(run: &mut Run) {
+fn conformity(run: &mut Run<Bench>) {
     run.group("conformity: lists that conform", |dice, bench| {
         for turn in 0..20_000 {
             let least = if turn % 10 == 0 { dice.below(301) } else { 0 };
@@ -467,7 +429,7 @@ fn conformity(run: &mut Run) {
     });
 }
 
-fn round_trips(run: &mut Run) {
+fn round_trips(run: &mut Run<Bench>) {
     run.group("what is read and written again is the same text", |dice, bench| {
         for turn in 0..20_000 {
             let draft = match turn % 10 {
@@ -512,32 +474,28 @@ fn main() {
         [seed] => seed.parse().unwrap_or_else(|_| bad_words()),
         _ => bad_words(),
     };
-    println!("seed {}", seed);
-    let mut dice = Dice(seed);
-    let bench = Bench::new(&mut dice);
-    let mut run = Run { dice, bench, all: Tally::new(), passed: 0, failed: 0 };
+    let mut run = Run::new(seed, Bench::new);
     let every_row: Vec<usize> = (0..ROW_COUNT).collect();
     if what == "all" || what == "conformity" {
         conformity(&mut run);
         // The rows that 29 can name: 10, 20 to 26; B0, B2, B6, B7, B9, BB, BD, BG to BK.
         let named = [13, 39, 40, 41, 42, 43, 44, 45, 89, 91, 95, 96, 98, 100, 102, 105, 106, 107, 108, 109];
-        run.coverage("conformity", &CONFORMITY, &named);
+        coverage(&mut run, "conformity", &CONFORMITY, &named);
     }
     if what == "all" || what == "read" {
         reading(&mut run);
         damaged_reading(&mut run);
         signatures(&mut run);
         lengths(&mut run);
-        run.coverage("read", &READING, &every_row);
+        coverage(&mut run, "read", &READING, &every_row);
     }
     if what == "all" || what == "write" {
         writing(&mut run);
         damaged_writing(&mut run);
-        run.coverage("write", &WRITING, &every_row);
+        coverage(&mut run, "write", &WRITING, &every_row);
     }
     if what == "all" {
         round_trips(&mut run);
     }
-    println!("{} passed, {} failed", run.passed, run.failed);
-    std::process::exit(if run.failed == 0 { 0 } else { 1 });
+    run.end();
 }

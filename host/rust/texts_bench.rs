@@ -7,6 +7,7 @@ use crate::messages::Order;
 use crate::paper::Refusal;
 use crate::paper_rows::ROW_COUNT;
 use crate::paper_text;
+use crate::run;
 
 /// Bytes, and records, before and behind what is lent that nobody may touch.
 const GUARD: usize = 64;
@@ -25,16 +26,22 @@ pub struct Tally {
     pub rows: [usize; ROW_COUNT],
 }
 
-impl Tally {
-    pub fn new() -> Tally {
+impl Default for Tally {
+    fn default() -> Tally {
         Tally { answers: [0; 32], differences: 0, rows: [0; ROW_COUNT] }
     }
+}
 
-    pub fn cases(&self) -> usize {
+impl run::Tally for Tally {
+    fn cases(&self) -> usize {
         self.answers.iter().sum()
     }
 
-    pub fn add(&mut self, other: &Tally) {
+    fn differences(&self) -> usize {
+        self.differences
+    }
+
+    fn add(&mut self, other: &Tally) {
         for (mine, theirs) in self.answers.iter_mut().zip(other.answers) {
             *mine += theirs;
         }
@@ -42,6 +49,12 @@ impl Tally {
             *mine += theirs;
         }
         self.differences += other.differences;
+    }
+
+    fn told(&self) -> String {
+        let refused = run::counts((1..self.answers.len()).filter(|&number| self.answers[number] > 0), &self.answers);
+        let refused = if refused.is_empty() { "none" } else { &refused };
+        format!("{} cases, {} accepted, refused {}", self.cases(), self.answers[0], refused)
     }
 }
 
@@ -53,6 +66,14 @@ pub struct Bench {
     pub tally: Tally,
 }
 
+impl run::Compares for Bench {
+    type Counts = Tally;
+
+    fn tally(&mut self) -> &mut Tally {
+        &mut self.tally
+    }
+}
+
 impl Bench {
     pub fn new(dice: &mut Dice) -> Bench {
         let pool = noise(dice, 65_536);
@@ -60,7 +81,7 @@ impl Bench {
         for word in records.iter_mut().step_by(WORDS) {
             *word &= 0xff01_ffff;
         }
-        Bench { pool, records, tally: Tally::new() }
+        Bench { pool, records, tally: Tally::default() }
     }
 
     fn random_bytes(&self, dice: &mut Dice, count: usize) -> Vec<u8> {

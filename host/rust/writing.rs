@@ -7,11 +7,13 @@ mod ddoc;
 mod lists;
 mod paper;
 mod paper_writing;
+mod run;
 mod written_texts;
 
 use lists::Dice;
 use paper::{CAPACITIES, LONGEST_TEXT};
 use paper_writing::{Pairs, Writer, Writing, LEAST_WORK};
+use run::Run;
 use std::collections::HashMap;
 
 const USUAL_SEED: u64 = 20_240_817;
@@ -37,9 +39,13 @@ struct Tally {
     differences: usize,
 }
 
-impl Tally {
-    fn calls(&self) -> usize {
+impl run::Tally for Tally {
+    fn cases(&self) -> usize {
         self.answers.iter().sum()
+    }
+
+    fn differences(&self) -> usize {
+        self.differences
     }
 
     fn add(&mut self, other: &Tally) {
@@ -52,6 +58,11 @@ impl Tally {
         self.work_too_short += other.work_too_short;
         self.full += other.full;
         self.differences += other.differences;
+    }
+
+    fn told(&self) -> String {
+        let refused = run::counts(5..10, &self.answers);
+        format!("{} calls, {} accepted ({} full), refused {}", self.cases(), self.answers[0], self.full, refused)
     }
 }
 
@@ -74,6 +85,14 @@ struct Bench {
     work: Vec<u16>,
     input: Vec<u8>,
     tally: Tally,
+}
+
+impl run::Compares for Bench {
+    type Counts = Tally;
+
+    fn tally(&mut self) -> &mut Tally {
+        &mut self.tally
+    }
 }
 
 impl Bench {
@@ -204,58 +223,19 @@ fn some_lent(dice: &mut Dice, needed: usize) -> Lent {
     Lent { largest, work, room }
 }
 
-struct Run {
-    dice: Dice,
-    bench: Bench,
-    all: Tally,
-    passed: usize,
-    failed: usize,
+/// The texts must have reached every answer and every capacity that can be needed, or the comparison says little.
+fn coverage(run: &mut Run<Bench>) {
+    let all = run.all.clone();
+    let often = |count: usize| count >= LEAST_REFUSED;
+    let sixes = often(all.work_too_short) && often(all.answers[6] - all.work_too_short);
+    run.report(sixes && [5, 7, 8, 9].iter().all(|&number| often(all.answers[number])), "every answer occurs often", &all);
+    let needed = CAPACITIES.iter().zip(all.capacities).filter(|(&capacity, _)| capacity <= LARGEST_NEEDED);
+    let counts: Vec<String> = needed.clone().map(|(capacity, count)| format!("{}: {}", capacity, count)).collect();
+    println!("written in {}", counts.join(", "));
+    run.report(needed.clone().all(|(_, count)| often(count)), "every capacity to 1,050 occurs often", &all);
 }
 
-impl Run {
-    /// One group of texts, one test.
-    fn group(&mut self, name: &str, texts: impl FnOnce(&mut Dice, &mut Bench)) {
-        self.bench.tally = Tally::default();
-        texts(&mut self.dice, &mut self.bench);
-        let tally = self.bench.tally.clone();
-        let good = tally.differences == 0 && tally.calls() > 0;
-        self.report(good, name, &tally);
-        self.all.add(&tally);
-    }
-
-    fn report(&mut self, good: bool, name: &str, tally: &Tally) {
-        let refused: Vec<String> = (5..10).map(|number| format!("{}: {}", number, tally.answers[number])).collect();
-        println!(
-            "{} {}: {} calls, {} accepted ({} full), refused {}; {} differ",
-            if good { "ok" } else { "FAILED" },
-            name,
-            tally.calls(),
-            tally.answers[0],
-            tally.full,
-            refused.join(", "),
-            tally.differences
-        );
-        if good {
-            self.passed += 1;
-        } else {
-            self.failed += 1;
-        }
-    }
-
-    /// The texts must have reached every answer and every capacity that can be needed, or the comparison says little.
-    fn coverage(&mut self) {
-        let all = self.all.clone();
-        let often = |count: usize| count >= LEAST_REFUSED;
-        let sixes = often(all.work_too_short) && often(all.answers[6] - all.work_too_short);
-        self.report(sixes && [5, 7, 8, 9].iter().all(|&number| often(all.answers[number])), "every answer occurs often", &all);
-        let needed = CAPACITIES.iter().zip(all.capacities).filter(|(&capacity, _)| capacity <= LARGEST_NEEDED);
-        let counts: Vec<String> = needed.clone().map(|(capacity, count)| format!("{}: {}", capacity, count)).collect();
-        println!("written in {}", counts.join(", "));
-        self.report(needed.clone().all(|(_, count)| often(count)), "every capacity to 1,050 occurs often", &all);
-    }
-}
-
-fn random_texts(run: &mut Run) {
+fn random_texts(run: &mut Run<Bench>) {
     for (longest, count) in [(8, 20_000), (30, 24_000), (150, 6_000), (1_000, 1_000)] {
         run.group(&format!("texts of up to {} characters", longest), |dice, bench| {
             for turn in 0..count {
@@ -292,7 +272,7 @@ fn random_texts(run: &mut Run) {
 
 /// Of a long text every ending: where one character more needs the next capacity, those around it, with this capacity, the
 /// one below and all permitted.
-fn edges(run: &mut Run) {
+fn edges(run: &mut Run<Bench>) {
     run.group("texts around the edge of each capacity", |dice, bench| {
         for turn in 0..2 * written_texts::STYLES {
             let text = written_texts::text(dice, turn % written_texts::STYLES, LONGEST_TEXT);
@@ -316,7 +296,7 @@ fn edges(run: &mut Run) {
     });
 }
 
-fn characters_above_127(run: &mut Run) {
+fn characters_above_127(run: &mut Run<Bench>) {
     run.group("texts with characters above 127", |dice, bench| {
         for turn in 0..2_000 {
             let length = if turn % 4 == 0 { dice.between(990, 1_002) } else { dice.between(1, 60) };
@@ -330,7 +310,7 @@ fn characters_above_127(run: &mut Run) {
     });
 }
 
-fn largest_sizes(run: &mut Run) {
+fn largest_sizes(run: &mut Run<Bench>) {
     run.group("every largest size, and others", |dice, bench| {
         let huge = [1 << 16, (1 << 16) + 3, 1 << 32, (1 << 32) + 5, (1 << 32) + 1558, usize::MAX - 2, usize::MAX];
         for largest in (0..=1_700).chain(huge) {
@@ -364,7 +344,7 @@ fn ask_lists(dice: &mut Dice, bench: &mut Bench, text: &[u8], best: &[HashMap<Ve
     bench.expect(dice, text, Lent { largest, ..PLENTY }, &right);
 }
 
-fn all_lists(run: &mut Run) {
+fn all_lists(run: &mut Run<Bench>) {
     let pairs = Pairs::new();
     run.group("all texts of up to 4 corner characters, by all lists of 3 and 5", |dice, bench| {
         let mut all = vec![vec![]];
@@ -400,7 +380,7 @@ fn all_lists(run: &mut Run) {
 }
 
 /// Every choice of faults at once: the first of the paper's order is given.
-fn faults(run: &mut Run) {
+fn faults(run: &mut Run<Bench>) {
     run.group("faults in every order", |dice, bench| {
         for faults in 0..64 {
             let fault = |number: usize| faults >> number & 1 == 1;
@@ -438,25 +418,13 @@ fn faults(run: &mut Run) {
 }
 
 fn main() {
-    let seed = match std::env::args().nth(1).map(|word| word.parse()) {
-        None => USUAL_SEED,
-        Some(Ok(seed)) => seed,
-        Some(Err(_)) => {
-            eprintln!("writing: the seed has to be a number from 0 to {}", u64::MAX);
-            std::process::exit(2);
-        }
-    };
-    println!("seed {}", seed);
-    let mut dice = Dice(seed);
-    let bench = Bench::new(&mut dice);
-    let mut run = Run { dice, bench, all: Tally::default(), passed: 0, failed: 0 };
+    let mut run = Run::new(run::given_seed("writing", USUAL_SEED), Bench::new);
     random_texts(&mut run);
     edges(&mut run);
     characters_above_127(&mut run);
     largest_sizes(&mut run);
     all_lists(&mut run);
     faults(&mut run);
-    run.coverage();
-    println!("{} passed, {} failed", run.passed, run.failed);
-    std::process::exit(if run.failed == 0 { 0 } else { 1 });
+    coverage(&mut run);
+    run.end();
 }

@@ -7,6 +7,7 @@ use lib.ListN.{replicate}
 use Rattle.dictionary.specs.Rows.{rowCount}
 use Rattle.dictionary.specs.declared.Fields.{Fields}
 use Rattle.text_reader.specs.declared.Outcome.the-variants.{Refused}
+use Rattle.text_reader.specs.declared.FieldRead.the-variants.{One}
 use Rattle.text_reader.specs.Answers.{zoneAnswer}
 use Rattle.text_reader.specs.Code.{FieldFits}
 use Rattle.text_reader.proofs.Zones.{Filled, filled-start, filled-count, filled-size, filled-end, filled-refused, filled-more}
@@ -56,68 +57,40 @@ returns c =
 enum-known-x : tie.Need-enum-known-x Inv-loop μ-loop
 enum-known-x c = search needs
 
-mul-x : tie.Need-mul-x Inv-loop μ-loop
-mul-x c =
-    let r = c .before .before .before in
+-- a field that was read: where the next one stands, its row, and that the list has room
+fits : (c : tie.After-x Inv-loop μ-loop) →
+    let r = c .before .before in
     let l = r .before .before .before .before .loop in
-    let a = r .before .before .before .before .before .before .before .before .args in
-    let g = c .before .x .given in
-    let w = subst (λ y. FieldFits y (l .p) (a .end) (l .out .count)) (g .1) (r .read-field .ensures .1) in
-    omega (arith, w .3)
+    FieldFits (One (c .x .given .0 .0) (c .x .given .0 .1 .0)) (l .p) (r .before .before .before .before .before .before .before .before .args .end) (l .out .count)
+fits c =
+    let r = c .before .before in
+    let l = r .before .before .before .before .loop in
+    subst (λ y. FieldFits y (l .p) (r .before .before .before .before .before .before .before .before .args .end) (l .out .count)) (c .x .given .1) (r .read-field .ensures .1)
+
+mul-x : tie.Need-mul-x Inv-loop μ-loop
+mul-x c = omega (arith, fits (c .before) .3)
 
 element-set-from-x : tie.Need-element-set-from-x Inv-loop μ-loop
-element-set-from-x c =
-    let r = c .before .before .before in
-    let l = r .before .before .before .before .loop in
-    let a = r .before .before .before .before .before .before .before .before .args in
-    let g = c .before .x .given in
-    let w = subst (λ y. FieldFits y (l .p) (a .end) (l .out .count)) (g .1) (r .read-field .ensures .1) in
-    let n = filled-size _ _ _ _ _ _ (l .inv .1) in
-    omega (arith, w .3, n)
+element-set-from-x c = omega (arith, fits (c .before) .3, filled-size _ _ _ _ _ _ (c .before .before .before .before .before .before .before .loop .inv .1))
 
 add-out : tie.Need-add-out Inv-loop μ-loop
-add-out c =
-    let r = c .before .before .before in
-    let l = r .before .before .before .before .loop in
-    let a = r .before .before .before .before .before .before .before .before .args in
-    let g = c .before .x .given in
-    let w = subst (λ y. FieldFits y (l .p) (a .end) (l .out .count)) (g .1) (r .read-field .ensures .1) in
-    omega (arith, w .3)
+add-out c = omega (arith, fits (c .before) .3)
 
 cast-row : tie.Need-cast-row Inv-loop μ-loop
-cast-row c =
-    let r = c .before .before .before .before in
-    let l = r .before .before .before .before .loop in
-    let a = r .before .before .before .before .before .before .before .before .args in
-    let g = c .before .before .x .given in
-    let w = subst (λ y. FieldFits y (l .p) (a .end) (l .out .count)) (g .1) (r .read-field .ensures .1) in
-    omega (arith, w .2)
+cast-row c = omega (arith, fits (c .before .before) .2)
 
 array-write-used : tie.Need-array-write-used Inv-loop μ-loop
-array-write-used c =
-    let r = c .before .before .before .before in
-    let l = r .before .before .before .before .loop in
-    let a = r .before .before .before .before .before .before .before .before .args in
-    let g = c .before .before .x .given in
-    let w = subst (λ y. FieldFits y (l .p) (a .end) (l .out .count)) (g .1) (r .read-field .ensures .1) in
-    w .2
+array-write-used c = fits (c .before .before) .2
 
 loop-less : tie.Need-loop-less Inv-loop μ-loop
-loop-less c =
-    let r = c .before .before .before .before in
-    let l = r .before .before .before .before .loop in
-    let a = r .before .before .before .before .before .before .before .before .args in
-    let g = c .before .before .x .given in
-    let w = subst (λ y. FieldFits y (l .p) (a .end) (l .out .count)) (g .1) (r .read-field .ensures .1) in
-    omega (arith, w .0, w .1)
+loop-less c = let w = fits (c .before .before) in omega (arith, w .0, w .1)
 
 loop-again : tie.Need-loop-again Inv-loop μ-loop
 loop-again c =
     let r = c .before .before .before .before in
     let l = r .before .before .before .before .loop in
-    let a = r .before .before .before .before .before .before .before .before .args in
     let g = c .before .before .x .given in
-    let w = subst (λ y. FieldFits y (l .p) (a .end) (l .out .count)) (g .1) (r .read-field .ensures .1) in
+    let w = fits (c .before .before) in
     (w .1, filled-more _ _ _ _ (l .out) (l .p) (l .inv .1) (r .read-field .result) (r .read-field .ensures .0) (g .0 .0) (g .0 .1 .0) (g .1) (w .2) (w .3))
 
 returns-2 : tie.Need-returns-2 Inv-loop μ-loop
