@@ -84,7 +84,7 @@ def table(name, note, reader, cases):
     lines = ["", "-- " + note, "%s : map (λ (x : Case). %s)" % (name, reader)]
     lines += ["    %s(%s, %d)" % ("(" if i == 0 else "∷ ", listed(c), n) for i, (c, n, out) in enumerate(cases)] + ["    ∷ [])"]
     lines += ["    %s%s" % ("≡ " if i == 0 else "∷ ", answer(c, out)) for i, (c, n, out) in enumerate(cases)] + ["    ∷ []"]
-    return lines + ["unfolding readSymbol read value unfinished ascii lone pair within capacities", "%s = refl" % name]
+    return lines + ["unfolding readSymbol read value unfinished ascii lone pair among capacities", "%s = refl" % name]
 
 
 def vectors():
@@ -130,8 +130,9 @@ def main():
         "use mathlib.Core.Bool.{true, false}",
         "use mathlib.Core.List.{List, [], _∷_, map}",
         "use mathlib.Core.Path.{_≡_, refl}",
+        "use Rattle.refusal.specs.Among.{among}",
         "use Rattle.codeword.specs.Meanings.{ascii, lone, pair, value, unfinished}",
-        "use Rattle.codeword.specs.Sizes.{capacities, within}",
+        "use Rattle.codeword.specs.Sizes.{capacities}",
         "use Rattle.codeword.specs.Reading.{good, refused, inAscii, read, readSymbol}",
         "",
         "-- codewords, and the length of the lent text or the room for characters",

@@ -3,8 +3,9 @@ use Prim.Native.Nat.{ℕ}
 use mathlib.Core.Bool.{true, false}
 use mathlib.Core.List.{List, [], _∷_, map}
 use mathlib.Core.Path.{_≡_, refl}
+use Rattle.refusal.specs.Among.{among}
 use Rattle.codeword.specs.Meanings.{ascii, lone, pair, value, unfinished}
-use Rattle.codeword.specs.Sizes.{capacities, within}
+use Rattle.codeword.specs.Sizes.{capacities}
 use Rattle.codeword.specs.Reading.{good, refused, inAscii, read, readSymbol}
 
 -- codewords, and the length of the lent text or the room for characters
@@ -135,7 +136,7 @@ vectors : map (λ (x : Case). readSymbol (x .0) (x .1))
     ∷ good ([]) 0 true
     ∷ refused 2 0
     ∷ []
-unfolding readSymbol read value unfinished ascii lone pair within capacities
+unfolding readSymbol read value unfinished ascii lone pair among capacities
 vectors = refl
 
 -- around the limit of 1,000 characters
@@ -154,7 +155,7 @@ limits : map (λ (x : Case). readSymbol (x .0) (x .1))
     ∷ refused 5 500
     ∷ refused 5 500
     ∷ []
-unfolding readSymbol read value unfinished ascii lone pair within capacities
+unfolding readSymbol read value unfinished ascii lone pair among capacities
 limits = refl
 
 -- corners, with room for seven characters and for one
@@ -513,5 +514,5 @@ corners : map (λ (x : Case). read (x .0) inAscii (x .1))
     ∷ good (65 ∷ []) 5 false
     ∷ good (65 ∷ []) 5 false
     ∷ []
-unfolding readSymbol read value unfinished ascii lone pair within capacities
+unfolding readSymbol read value unfinished ascii lone pair among capacities
 corners = refl

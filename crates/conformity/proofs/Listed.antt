@@ -17,9 +17,11 @@ use Rattle.refusal.specs.Numbers.{type-not-covered, identifier-missing, identif
 use Rattle.dictionary.specs.declared.Field.{Field}
 use Rattle.dictionary.specs.Rows.{rowCount}
 use Rattle.refusal.proofs.Binds.{left, right, clash}
+use Rattle.refusal.specs.Among.{among}
+use Rattle.dictionary.specs.Dictionary.{rowsOf}
 use Rattle.conformity.specs.declared.Seen.{Seen}
 use Rattle.conformity.specs.Tables.{Mark, O, F, no, Exchange, Table, tables, domicile, academic}
-use Rattle.conformity.specs.Conformity.{columnOf, tableAt, markOf, mandatory, permitted, present, among, every, replaced, there, complete, allowed, conforms}
+use Rattle.conformity.specs.Conformity.{columnOf, tableAt, markOf, mandatory, permitted, every, replaced, there, complete, allowed, conforms}
 use Rattle.conformity.specs.Noted.{markCode, marksOf, answered, begun, markAt, isBarred, isMissing, isThere, met, noted, notedAll, noneMissing, decided}
 use Rattle.conformity.proofs.Marks.{mark-at}
 
@@ -75,12 +77,12 @@ module _ (t : Table) (has : ℕ → Bool) (l : List ℕ) (marked : Marked t has 
   one-met : Marked t (λ n. has n || eqb n m) (met l m)
   one-met n = met-at n (eqb n m) refl
 
-rows-are : (t : Table) (has : ℕ → Bool) (s : Seen) (i : ℕ) (fs : List Field) → Marked t has (s .rows) → Marked t (λ n. has n || present fs n) (notedAll s i fs .rows)
-unfolding notedAll noted present
+rows-are : (t : Table) (has : ℕ → Bool) (s : Seen) (i : ℕ) (fs : List Field) → Marked t has (s .rows) → Marked t (λ n. has n || among n (rowsOf fs)) (notedAll s i fs .rows)
+unfolding notedAll noted among
 rows-are t has s i [] h n = h n ∙ ap (markNow (markOf t n)) (or-false (has n))
 rows-are t has s i (f ∷ fs) h n =
     rows-are t (λ k. has k || eqb k (f .row)) (noted s i f) (suc i) fs (one-met t has (s .rows) h (f .row)) n ∙
-    ap (markNow (markOf t n)) (or-assoc (has n) (eqb n (f .row)) (present fs n))
+    ap (markNow (markOf t n)) (or-assoc (has n) (eqb n (f .row)) (among n (rowsOf fs)))
 
 unmet : (m : Mark) → markCode m ≡ markNow m false
 unmet O = refl
@@ -178,6 +180,9 @@ module _ (a b : ℕ) (fs : List Field) where
   abbrev k : ℕ
   k = columnOf a b
 
+  abbrev named : ℕ → Bool
+  named n = among n (rowsOf fs)
+
   abbrev answer : (column : ℕ) → (missing wrong : Answer (Unit {0})) → Answer (Unit {0})
   answer c x y = do
     check (ltb c 5) type-not-covered 0
@@ -190,8 +195,8 @@ module _ (a b : ℕ) (fs : List Field) where
       let none-yet = at-first k in
       ap (λ (c : ℕ). answered (answer c (noneMissing (tableAt c .exchanges) (end .rows) rowCount 0) (fault end))) (column-kept (begun a b) 0 fs) ∙
       (ap (λ (z : Answer (Unit {0})). answered (answer k z (fault end)))
-      (complete-same (tableAt k) (present fs) (end .rows) (rows-are (tableAt k) (λ _. false) (begun a b) 0 fs none-yet) (exchanges-asked k) 110 0) ∙
-      ap (λ (z : Answer (Unit {0})). answered (answer k (complete (tableAt k) (present fs) rowCount 0) z)) (faults-are (tableAt k) (λ _. false) (begun a b) 0 fs none-yet))
+      (complete-same (tableAt k) named (end .rows) (rows-are (tableAt k) (λ _. false) (begun a b) 0 fs none-yet) (exchanges-asked k) 110 0) ∙
+      ap (λ (z : Answer (Unit {0})). answered (answer k (complete (tableAt k) named rowCount 0) z)) (faults-are (tableAt k) (λ _. false) (begun a b) 0 fs none-yet))
 
 -- one turn of the loop: the record at i is noted, and the rest of the list is one record shorter
 pub next-noted : (s next : Seen) (i : ℕ) (x d : Field) (fs : List Field) → i < length fs → x ≡ getD fs i d → next ≡ noted s i x

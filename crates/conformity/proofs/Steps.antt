@@ -10,6 +10,7 @@ use lib.Dec.{ltb, eqb}
 use lib.ListN.{length, set, List·getD-eq-default}
 use borrow.Author.Tests.{eq-eqb, ne-eqb, lt-ltb, le-ltb}
 use Rattle.refusal.specs.Pick.{pick}
+use Rattle.refusal.specs.Among.{among}
 use Rattle.refusal.specs.Answers.{Answer, good, refused, _>>_, check}
 use Rattle.refusal.specs.Numbers.{type-not-covered, identifier-missing, identifier-not-permitted, refusal}
 use Rattle.dictionary.specs.declared.Field.{Field}
@@ -37,25 +38,32 @@ module _ (has : ℕ → Bool) (n : ℕ) where
 
   -- 10, for which 11, 12 and 13 stand
   pub star-all : n ≡ 13 → has 14 ≡ true → has 15 ≡ true → has 16 ≡ starred
+  unfolding among
   star-all e p q = rw (e, p, q) (alone (has 16))
 
   pub star-no-11 : n ≡ 13 → has 14 ≡ false → false ≡ starred
+  unfolding among
   star-no-11 e p = rw (e, p)
 
   pub star-no-12 : n ≡ 13 → has 14 ≡ true → has 15 ≡ false → false ≡ starred
+  unfolding among
   star-no-12 e p q = rw (e, p, q)
 
   -- 11, 12 and 13, for which 10 stands
   pub star-11 : n ≡ 14 → has 13 ≡ starred
+  unfolding among
   star-11 e = rw e (last (has 13))
 
   pub star-12 : n ≡ 15 → has 13 ≡ starred
+  unfolding among
   star-12 e = rw e (last (has 13))
 
   pub star-13 : n ≡ 16 → has 13 ≡ starred
+  unfolding among
   star-13 e = rw e (last (has 13))
 
   pub star-none : (n ≡ 13 → ⊥) → (n ≡ 14 → ⊥) → (n ≡ 15 → ⊥) → (n ≡ 16 → ⊥) → false ≡ starred
+  unfolding among
   star-none a b c d = simp (ne-eqb n 13 a, ne-eqb n 14 b, ne-eqb n 15 c, ne-eqb n 16 d)
 
   abbrev sixth : Bool
@@ -63,12 +71,15 @@ module _ (has : ℕ → Bool) (n : ℕ) where
 
   -- B0 and B1, which stand for each other
   pub six-B0 : n ≡ 89 → has 90 ≡ sixth
+  unfolding among
   six-B0 e = rw e (alone (has 90))
 
   pub six-B1 : n ≡ 90 → has 89 ≡ sixth
+  unfolding among
   six-B1 e = rw e (last (has 89))
 
   pub six-none : (n ≡ 89 → ⊥) → (n ≡ 90 → ⊥) → false ≡ sixth
+  unfolding among
   six-none a b = simp (ne-eqb n 89 a, ne-eqb n 90 b)
 
 -- the exchanges of a column

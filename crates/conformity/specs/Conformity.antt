@@ -7,8 +7,9 @@ use lib.ListN.{getD}
 use Rattle.refusal.specs.Pick.{pick}
 use Rattle.refusal.specs.Answers.{Answer, good, refused, _>>_, _>>=_, check}
 use Rattle.refusal.specs.Numbers.{type-not-covered, identifier-missing, identifier-not-permitted}
+use Rattle.refusal.specs.Among.{among}
 use Rattle.dictionary.specs.declared.Field.{Field}
-use Rattle.dictionary.specs.Dictionary.{between}
+use Rattle.dictionary.specs.Dictionary.{between, rowsOf}
 use Rattle.dictionary.specs.Rows.{rowCount}
 use Rattle.conformity.specs.Tables.{Mark, O, F, no, Line, Exchange, Section, Table, tables}
 
@@ -48,15 +49,6 @@ permitted O = true
 permitted F = true
 permitted no = false
 
--- does a field of the list name the row?
-unfoldable pub present : List Field → ℕ → Bool
-present [] n = false
-present (f ∷ fs) n = eqb n (f .row) || present fs n
-
-abbrev pub among : List ℕ → ℕ → Bool
-among [] n = false
-among (m ∷ ms) n = eqb n m || among ms n
-
 abbrev pub every : (ℕ → Bool) → List ℕ → Bool
 every has [] = true
 every has (m ∷ ms) = has m && every has ms
@@ -64,7 +56,7 @@ every has (m ∷ ms) = has m && every has ms
 -- "where one makes fields interchangeable, one of them is enough": all that the row is exchanged for is there
 abbrev pub replaced : (has : ℕ → Bool) → List Exchange → ℕ → Bool
 replaced has [] n = false
-replaced has (x ∷ xs) n = ((among (x .one) n && every has (x .other)) || (among (x .other) n && every has (x .one))) || replaced has xs n
+replaced has (x ∷ xs) n = ((among n (x .one) && every has (x .other)) || (among n (x .other) && every has (x .one))) || replaced has xs n
 
 unfoldable pub there : Table → (has : ℕ → Bool) → ℕ → Bool
 there t has n = has n || replaced has (t .exchanges) n
@@ -87,5 +79,5 @@ allowed t i (f ∷ fs) = do
 unfoldable pub conforms : (type0 type1 : ℕ) → List Field → Answer (Unit {0})
 conforms a b fs = do
   check (ltb (columnOf a b) 5) type-not-covered 0
-  complete (tableAt (columnOf a b)) (present fs) rowCount 0
+  complete (tableAt (columnOf a b)) (λ n. among n (rowsOf fs)) rowCount 0
   allowed (tableAt (columnOf a b)) 0 fs

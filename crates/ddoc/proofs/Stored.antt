@@ -14,12 +14,13 @@ use Rattle.refusal.specs.Answers.{Answer, good, refused}
 use Rattle.refusal.specs.Numbers.{identifier-repeated, data-too-short, text-too-long, lent-too-short}
 use Rattle.refusal.specs.Limits.{limit, most-fields}
 use Rattle.refusal.proofs.Binds.{never, same-good, by-bind, by-check}
-use Rattle.dictionary.specs.Dictionary.{Dictionary, find}
+use Rattle.refusal.specs.Among.{among}
+use Rattle.dictionary.specs.Dictionary.{Dictionary, find, rowsOf}
 use Rattle.dictionary.specs.Rows.{rows}
 use Rattle.dictionary.specs.declared.Field.{Field}
 use Rattle.text.specs.Header.{size, readHeader}
 use Rattle.text.specs.Signature.{readSignature}
-use Rattle.text.specs.Zone.{readData, taken, zone}
+use Rattle.text.specs.Zone.{readData, zone}
 use Rattle.text.specs.Text.{atMark, Reading, reading, readText}
 use Rattle.text_reader.specs.Answers.{textAnswer}
 use Rattle.records.specs.Lists.{pasted}
@@ -31,13 +32,13 @@ zone-few d zero before p [] x e = subst (λ (z : List Field). length z ≤ lengt
 zone-few d zero before p (c ∷ []) x e = never e
 zone-few d zero before p (a ∷ b ∷ l) x e =
     by-bind (find a b 0 p d) _ e λ n _ e.
-    by-check (not (taken (n .number) before)) identifier-repeated p _ e λ _ e.
+    by-check (not (among (n .number) (rowsOf before))) identifier-repeated p _ e λ _ e.
     never e
 zone-few d (suc room) before p [] x e = subst (λ (z : List Field). length z ≤ length before + suc room) (same-good e) (omega arith)
 zone-few d (suc room) before p (c ∷ []) x e = never e
 zone-few d (suc room) before p (a ∷ b ∷ l) x e =
     by-bind (find a b 0 p d) _ e λ n _ e.
-    by-check (not (taken (n .number) before)) identifier-repeated p _ e λ _ e.
+    by-check (not (among (n .number) (rowsOf before))) identifier-repeated p _ e λ _ e.
     by-bind (readData (n .row) p [] (p + 2) l) _ e λ y _ e.
     by-check (leb (n .row .least) (length (y .chars))) data-too-short p _ e λ _ e.
     let f : Field = record { row = n .number; start = p + 2; length = length (y .chars); cut = y .cut } in

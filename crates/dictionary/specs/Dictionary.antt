@@ -1,7 +1,7 @@
 -- A dictionary: rows numbered from 0, each with an identifier, lengths and the characters of its data (document 01, "The text").
 use Prim.Native.Nat.{ℕ, zero, suc}
 use mathlib.Core.Bool.{Bool, true, false, not, _&&_, _||_}
-use mathlib.Core.List.{List, [], _∷_}
+use mathlib.Core.List.{List, [], _∷_, map}
 use lib.Dec.{leb, eqb}
 use lib.ListN.{length}
 use Rattle.refusal.specs.Pick.{pick}
@@ -12,6 +12,7 @@ use Rattle.dictionary.specs.declared.Kind.the-variants.{Numeric, Alphabe
 use Rattle.dictionary.specs.declared.Limit.{Limit}
 use Rattle.dictionary.specs.declared.Limit.the-variants.{UpTo, NoLimit}
 use Rattle.dictionary.specs.declared.Row.{Row}
+use Rattle.dictionary.specs.declared.Field.{Field}
 
 abbrev pub Dictionary : Type 0
 Dictionary = List Row
@@ -75,3 +76,7 @@ distinct (r ∷ d) = not (listed (r .first) (r .second) d) && distinct d
 unfoldable pub plain : Dictionary → Bool
 plain [] = true
 plain (r ∷ d) = (leb 32 (r .first) && leb 32 (r .second)) && plain d
+
+-- the rows that fields name
+abbrev pub rowsOf : List Field → List ℕ
+rowsOf l = map (λ (f : Field). f .row) l

@@ -13,12 +13,13 @@ use borrow.Author.Tests.{leb-true, le-leb, ne-eqb, not-true}
 use Rattle.refusal.specs.Answers.{good}
 use Rattle.refusal.specs.Numbers.{no-row, identifier-repeated, fixed-cut, data-too-long, wrong-character, data-too-short}
 use Rattle.refusal.proofs.Binds.{never, same-good, by-bind, by-check, by-and, clash}
-use Rattle.dictionary.specs.Dictionary.{Dictionary, allowed, fixed, full, rowAt, distinct, plain}
+use Rattle.refusal.specs.Among.{among}
+use Rattle.dictionary.specs.Dictionary.{Dictionary, allowed, fixed, full, rowAt, distinct, plain, rowsOf}
 use Rattle.dictionary.specs.declared.Row.{Row}
 use Rattle.dictionary.specs.declared.Field.{Field}
-use Rattle.text.specs.Zone.{does, Piece, onDoes, readData, taken, zone}
+use Rattle.text.specs.Zone.{does, Piece, onDoes, readData, zone}
 use Rattle.text.specs.Text.{within, inTurn, ending, spelled, dataOf, entries, writeField, writeZone}
-use Rattle.laws.proofs.Rows.{find-row, row-plain, allowed-plain, fixed-full, not-yet, rows, taken-rows, rows-snoc}
+use Rattle.laws.proofs.Rows.{find-row, row-plain, allowed-plain, fixed-full, not-yet, rows-snoc}
 use Rattle.laws.proofs.Covers.{part-at}
 
 -- nothing that would be taken for a mark stands at the front
@@ -92,7 +93,7 @@ pub record Admitted (d : Dictionary) (slice : List ℕ) (before : List Field) (f
   pub row : Row
   pub found : rowAt d (f .row) 0 ≡ good row
   pub long : length (dataOf slice f) ≡ f .length
-  pub once : taken (f .row) before ≡ false
+  pub once : among (f .row) (rowsOf before) ≡ false
   pub mark : (f .cut && fixed row) ≡ false
   pub limit : within (row .greatest) (f .length) ≡ true
   pub turn : inTurn row [] (dataOf slice f) ≡ true
@@ -111,7 +112,7 @@ unfolding writeField
 admitted d slice before i f x e =
     by-bind (rowAt d (f .row) i) _ e λ r er e.
     by-check (leb (f .start + f .length) (length slice)) no-row i _ e λ fits e.
-    by-check (not (taken (f .row) before)) identifier-repeated i _ e λ once e.
+    by-check (not (among (f .row) (rowsOf before))) identifier-repeated i _ e λ once e.
     by-check (not (f .cut && fixed r)) fixed-cut i _ e λ mark e.
     by-check (within (r .greatest) (f .length)) data-too-long i _ e λ limit e.
     by-check (inTurn r [] (dataOf slice f)) wrong-character i _ e λ turn e.
@@ -163,7 +164,7 @@ module _ (d : Dictionary) (dd : distinct d ≡ true) (pd : plain d ≡ true) (sl
   abbrev behind : ℕ → Row → List ℕ → Bool → ℕ
   behind p r chars cut = p + 2 + (length chars + length (ending r chars cut))
 
-  field-back : (n : ℕ) (f : Field) (written before : List Field) (p : ℕ) (x y : List ℕ) → (a : Admitted d slice written f x) → rows before ≡ rows written → NoMark y
+  field-back : (n : ℕ) (f : Field) (written before : List Field) (p : ℕ) (x y : List ℕ) → (a : Admitted d slice written f x) → rowsOf before ≡ rowsOf written → NoMark y
       → zone d (suc n) before p (x ++ y) ≡ zone d n (before ++ (the p f ∷ [])) (behind p (a .row) (dataOf slice f) (f .cut)) y
   unfolding zone
   field-back n f written before p x y a same nm =
@@ -173,7 +174,7 @@ module _ (d : Dictionary) (dd : distinct d ≡ true) (pd : plain d ≡ true) (sl
         a .is,
         find-row d 0 p (f .row) 0 (a .row) dd (a .found),
         zero-plus (f .row),
-        taken-rows (f .row) before written same ∙ a .once,
+        ap (among (f .row)) same ∙ a .once,
         append-assoc (dataOf slice f) (ending (a .row) (dataOf slice f) (f .cut)) y,
         data-back (a .row) p y nm (dataOf slice f) [] (f .cut) (p + 2) (a .turn) w (a .mark) (fixed-full (a .row) (length (dataOf slice f)) w l),
         le-leb _ _ l,
@@ -200,7 +201,7 @@ module _ (d : Dictionary) (dd : distinct d ≡ true) (pd : plain d ≡ true) (sl
   behind-is f written p x pre a pl =
       omega (arith, length-append pre x, ap length (a .is), length-append (dataOf slice f) (ending (a .row) (dataOf slice f) (f .cut)), pl)
 
-  joined : (n : ℕ) (f : Field) (fs written before : List Field) (p : ℕ) (x y l pre post : List ℕ) → x ++ y ≡ l → (a : Admitted d slice written f x) → rows before ≡ rows written → NoMark y → length pre ≡ p → text ≡ pre ++ (l ++ post)
+  joined : (n : ℕ) (f : Field) (fs written before : List Field) (p : ℕ) (x y l pre post : List ℕ) → x ++ y ≡ l → (a : Admitted d slice written f x) → rowsOf before ≡ rowsOf written → NoMark y → length pre ≡ p → text ≡ pre ++ (l ++ post)
       → ReadsBack d n slice fs text (behind p (a .row) (dataOf slice f) (f .cut)) y (before ++ (the p f ∷ [])) → ReadsBack d (suc n) slice (f ∷ fs) text p l before
   unfolding entries
   joined n f fs written before p x y l pre post xy a same nm pl tl b = record {
@@ -209,7 +210,7 @@ module _ (d : Dictionary) (dd : distinct d ≡ true) (pd : plain d ≡ true) (sl
     same = rw (data-there f written p x y pre post a pl (rw xy tl), b .same);
   }
 
-  pub zone-back : (fs written before : List Field) (i n p : ℕ) (l : List ℕ) → writeZone d slice written i fs ≡ good l → length fs ≤ n → rows before ≡ rows written
+  pub zone-back : (fs written before : List Field) (i n p : ℕ) (l : List ℕ) → writeZone d slice written i fs ≡ good l → length fs ≤ n → rowsOf before ≡ rowsOf written
       → (pre post : List ℕ) → length pre ≡ p → text ≡ pre ++ (l ++ post) → ReadsBack d n slice fs text p l before
   unfolding writeZone
   zone-back [] written before i n p l e few same pre post pl tl = rw (← same-good e) (nothing n p before)

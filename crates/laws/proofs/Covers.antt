@@ -14,10 +14,11 @@ use Rattle.refusal.specs.Answers.{good}
 use Rattle.refusal.specs.Numbers.{identifier-repeated, data-too-short}
 use Rattle.refusal.proofs.Tests.{by-test}
 use Rattle.refusal.proofs.Binds.{never, same-good, by-bind, by-check, by-and}
-use Rattle.dictionary.specs.Dictionary.{Dictionary, Numbered, fixed, find, rowAt}
+use Rattle.refusal.specs.Among.{among}
+use Rattle.dictionary.specs.Dictionary.{Dictionary, Numbered, fixed, find, rowAt, rowsOf}
 use Rattle.dictionary.specs.declared.Row.{Row}
 use Rattle.dictionary.specs.declared.Field.{Field}
-use Rattle.text.specs.Zone.{Piece, readData, taken, zone}
+use Rattle.text.specs.Zone.{Piece, readData, zone}
 use Rattle.text.specs.Text.{within, inTurn, ending, spelled, dataOf, writeField, writeZone}
 use Rattle.laws.proofs.Pieces.{Stands, stands, within-nil}
 
@@ -46,7 +47,7 @@ part-at slice pre mid post p e h = rw (e, drop-at pre (mid ++ post) p h, take-at
 
 -- the writer's refusals, NoLimit of which is met
 pub write-good : (d : Dictionary) (slice : List ℕ) (before : List Field) (i : ℕ) (f : Field) (r : Row) (chars : List ℕ)
-    → rowAt d (f .row) i ≡ good r → f .start + f .length ≤ length slice → taken (f .row) before ≡ false → (f .cut && fixed r) ≡ false
+    → rowAt d (f .row) i ≡ good r → f .start + f .length ≤ length slice → among (f .row) (rowsOf before) ≡ false → (f .cut && fixed r) ≡ false
     → within (r .greatest) (f .length) ≡ true → dataOf slice f ≡ chars → inTurn r [] chars ≡ true → r .least ≤ f .length
     → writeField d slice before i f ≡ good (spelled r chars (f .cut))
 unfolding writeField
@@ -72,7 +73,7 @@ module _ (d : Dictionary) (slice : List ℕ) (before : List Field) (i n p : ℕ)
   abbrev the : Numbered → Piece → Field
   the m x = record { row = m .number; start = p + 2; length = length (x .chars); cut = x .cut }
 
-  one-written : (m : Numbered) (x : Piece) → Is a b 0 d m → taken (m .number) before ≡ false → (s : Stands (m .row) [] (p + 2) l x) → m .row .least ≤ length (x .chars) → writeField d slice before i (the m x) ≡ good (spelled (m .row) (x .chars) (x .cut))
+  one-written : (m : Numbered) (x : Piece) → Is a b 0 d m → among (m .number) (rowsOf before) ≡ false → (s : Stands (m .row) [] (p + 2) l x) → m .row .least ≤ length (x .chars) → writeField d slice before i (the m x) ≡ good (spelled (m .row) (x .chars) (x .cut))
   one-written m x is once s least = write-good d slice before i (the m x) (m .row) (x .chars) (row-is) fits once (s .mark) (s .limit) data-is (rw (s .is) (s .turn)) least
     where
       row-is : rowAt d (m .number) i ≡ good (m .row)
@@ -100,7 +101,7 @@ module _ (d : Dictionary) (slice : List ℕ) (before : List Field) (i n p : ℕ)
     sl ∙ ap (λ z. pre ++ (z ++ post)) (sym (spelled-is m x is s)) ∙ simp append-assoc,
   )
 
-  joined : (m : Numbered) (x : Piece) → Is a b 0 d m → taken (m .number) before ≡ false → (s : Stands (m .row) [] (p + 2) l x) → m .row .least ≤ length (x .chars)
+  joined : (m : Numbered) (x : Piece) → Is a b 0 d m → among (m .number) (rowsOf before) ≡ false → (s : Stands (m .row) [] (p + 2) l x) → m .row .least ≤ length (x .chars)
       → Covered d slice (before ++ (the m x ∷ [])) (suc i) n (x .rest) fs → Covered d slice before i (suc n) (a ∷ b ∷ l) fs
   unfolding writeZone
   joined m x is once s least c = record {
@@ -117,12 +118,12 @@ covers d slice zero before i p [] fs e pre post pl sl = nothing d slice before i
 covers d slice zero before i p (c ∷ []) fs e pre post pl sl = never e
 covers d slice zero before i p (a ∷ b ∷ l) fs e pre post pl sl =
     by-bind (find a b 0 p d) _ e λ m _ e.
-    by-check (not (taken (m .number) before)) identifier-repeated p _ e λ _ e. never e
+    by-check (not (among (m .number) (rowsOf before))) identifier-repeated p _ e λ _ e. never e
 covers d slice (suc n) before i p [] fs e pre post pl sl = nothing d slice before i (suc n) fs (same-good e)
 covers d slice (suc n) before i p (c ∷ []) fs e pre post pl sl = never e
 covers d slice (suc n) before i p (a ∷ b ∷ l) fs e pre post pl sl =
     by-bind (find a b 0 p d) _ e λ m em e.
-    by-check (not (taken (m .number) before)) identifier-repeated p _ e λ once e.
+    by-check (not (among (m .number) (rowsOf before))) identifier-repeated p _ e λ once e.
     by-bind (readData (m .row) p [] (p + 2) l) _ e λ x ex e.
     by-check (leb (m .row .least) (length (x .chars))) data-too-short p _ e λ least e.
     let is = find-is a b 0 p d m em in

@@ -1,24 +1,23 @@
 -- Rows and their identifiers: with distinct identifiers a row is found under its own; no identifier and no data hold a separator;
--- lengths within the limit; and whether a row is taken hangs on the rows alone. By induction on the dictionary or the list.
+-- and lengths within the limit. By induction on the dictionary or the list.
 -- Assumes nothing.
 use Prim.Native.Nat.{ℕ, zero, suc, _+_, _≤_}
 use mathlib.Core.Bool.{Bool, true, false, not, _&&_}
-use mathlib.Core.List.{List, [], _∷_, _++_}
-use mathlib.Core.Path.{_≡_, refl, sym, _∙_}
+use mathlib.Core.List.{List, [], _∷_, _++_, map-append}
+use mathlib.Core.Path.{_≡_, refl, ap, sym, _∙_}
 use native.Mathlib.Omega.{arith}
 use lib.Dec.{leb, eqb}
 use borrow.Author.Tests.{leb-true, eqb-true, eq-eqb, ne-eqb, not-true}
 use Rattle.refusal.specs.Pick.{pick}
 use Rattle.refusal.specs.Answers.{good}
 use Rattle.refusal.proofs.Binds.{never, same-good, by-and, by-or, or-right, clash}
-use Rattle.dictionary.specs.Dictionary.{Dictionary, upper, inKind, isLimit, allowed, fixed, find, rowAt, listed, distinct, plain}
+use Rattle.dictionary.specs.Dictionary.{Dictionary, upper, inKind, isLimit, allowed, fixed, find, rowAt, listed, distinct, plain, rowsOf}
 use Rattle.dictionary.specs.declared.Kind.{Kind}
 use Rattle.dictionary.specs.declared.Kind.the-variants.{Numeric, Alphabetic, Alphanumeric}
 use Rattle.dictionary.specs.declared.Limit.{Limit}
 use Rattle.dictionary.specs.declared.Limit.the-variants.{UpTo, NoLimit}
 use Rattle.dictionary.specs.declared.Row.{Row}
 use Rattle.dictionary.specs.declared.Field.{Field}
-use Rattle.text.specs.Zone.{taken}
 use Rattle.text.specs.Text.{within}
 
 -- a row that stands in the dictionary is listed
@@ -83,27 +82,8 @@ pub not-yet : (m : Limit) (k n : ℕ) → within m n ≡ true → suc k ≤ n �
 not-yet (UpTo j) k n w h = let b : n ≤ j = leb-true n j w in ne-eqb k j (λ e. omega (arith, e))
 not-yet NoLimit k n w h = refl
 
--- a row is taken or not by the rows alone
-unfoldable pub rows : List Field → List ℕ
-rows [] = []
-rows (f ∷ l) = f .row ∷ rows l
-
-pub taken-rows : (n : ℕ) (l m : List Field) → rows l ≡ rows m → taken n l ≡ taken n m
-unfolding rows taken
-taken-rows n [] [] e = refl
-taken-rows n [] (g ∷ m) e = let z : _≡_ {A = ℕ} 0 1 = cc in absurd (omega arith)
-taken-rows n (f ∷ l) [] e = let z : _≡_ {A = ℕ} 0 1 = cc in absurd (omega arith)
-taken-rows n (f ∷ l) (g ∷ m) e =
-    let u : f .row ≡ g .row = cc in
-    let v : rows l ≡ rows m = cc in
-    rw (u, taken-rows n l m v)
-
-pub rows-snoc : (l m : List Field) (f g : Field) → rows l ≡ rows m → f .row ≡ g .row → rows (l ++ (f ∷ [])) ≡ rows (m ++ (g ∷ []))
-unfolding rows
-rows-snoc [] [] f g e h = rw h
-rows-snoc [] (x ∷ m) f g e h = let z : _≡_ {A = ℕ} 0 1 = cc in absurd (omega arith)
-rows-snoc (x ∷ l) [] f g e h = let z : _≡_ {A = ℕ} 0 1 = cc in absurd (omega arith)
-rows-snoc (x ∷ l) (y ∷ m) f g e h =
-    let u : x .row ≡ y .row = cc in
-    let v : rows l ≡ rows m = cc in
-    rw (u, rows-snoc l m f g v h)
+-- one more row at the end
+pub rows-snoc : (l m : List Field) (f g : Field) → rowsOf l ≡ rowsOf m → f .row ≡ g .row → rowsOf (l ++ (f ∷ [])) ≡ rowsOf (m ++ (g ∷ []))
+rows-snoc l m f g e h =
+    let more : (x : List Field) (y : Field) → rowsOf (x ++ (y ∷ [])) ≡ rowsOf x ++ (y .row ∷ []) = λ x y. map-append (λ (f : Field). f .row) x (y ∷ []) in
+    more l f ∙ (ap (λ (x : List ℕ). x ++ (f .row ∷ [])) e ∙ (ap (λ (k : ℕ). rowsOf m ++ (k ∷ [])) h ∙ sym (more m g)))

@@ -9,8 +9,9 @@ use native.Mathlib.Omega.{arith}
 use Rattle.refusal.specs.Answers as Answers
 use Rattle.refusal.specs.Limits.{limit, most-fields}
 use Rattle.refusal.specs.Numbers.{pair-outside, unused-value, zone-ends-inside}
+use Rattle.refusal.specs.Among.{among}
 use Rattle.codeword.specs.Meanings.{ascii, lone, pair, value, unfinished}
-use Rattle.codeword.specs.Sizes.{within, capacities}
+use Rattle.codeword.specs.Sizes.{capacities}
 use Rattle.codeword.specs.Reading.{good, refused, read, readSymbol}
 use Rattle.codeword.specs.Characters.{setOf, numberOf}
 use Rattle.codeword.specs.Pads.{padAt}
@@ -21,7 +22,7 @@ use Rattle.optimum.specs.Write.{odd, next, third, move, write, choose}
 use Rattle.optimum.proofs.Top.{right}
 use Rattle.dictionary.specs.Dictionary.{allowed, find}
 use Rattle.dictionary.specs.declared.Field.{Field}
-use Rattle.text.specs.Zone.{does, readData, taken, zone}
+use Rattle.text.specs.Zone.{does, readData, zone}
 use Rattle.text.specs.Samples.{five}
 
 abbrev field : (row start length : ℕ) → Field
@@ -64,7 +65,7 @@ pub record Starred : Type 0 where
       ∷ []
 
 pub starred : Starred
-unfolding choose capacities write move Write.pair next third numberOf odd cost base before chars pairs setOf digit padAt unfinished readSymbol read value ascii lone pair within zone find readData does taken allowed
+unfolding choose capacities write move Write.pair next third numberOf odd cost base before chars pairs setOf digit padAt unfinished readSymbol read value ascii lone pair among zone find readData does allowed
 starred =
     record {
       empty = right [] tt (omega arith) 1558;

@@ -11,7 +11,9 @@ use lib.Dec.{ltb, eqb}
 use borrow.Author.Tests.{ltb-true, ltb-false, leb-true, leb-false, eqb-true, eq-eqb}
 use Rattle.refusal.specs.Pick.{pick}
 use Rattle.refusal.proofs.Tests.{clash, by-test}
-use Rattle.codeword.specs.Sizes.{capacities, within}
+use Rattle.codeword.specs.Sizes.{capacities}
+use Rattle.refusal.specs.Among.{among}
+use Rattle.refusal.proofs.Among.{nowhere, first as at-first, further, first-or-further}
 use Rattle.optimum.specs.Cost.{asc, cost}
 use Rattle.optimum.specs.Write.{odd, fits, fewest, Choice, at, nothing, choose}
 
@@ -23,27 +25,6 @@ Feasible t c = (fewest t < c) ⊎ (cost false t asc (odd c) ≤ c)
 abbrev pub Kind : (t : List ℕ) (c n : ℕ) (padded : Bool) → Type 0
 Kind t c n true = (n ≡ fewest t) × (fewest t < c)
 Kind t c n false = (n ≡ c) × (c ≤ fewest t) × (cost false t asc (odd c) ≤ c)
-
--- members of a list
-here : (c : ℕ) (l : List ℕ) → within c (c ∷ l) ≡ true
-unfolding within
-here c l = rw (eq-eqb c c refl)
-
-there : (d c : ℕ) (l : List ℕ) → within d l ≡ true → within d (c ∷ l) ≡ true
-unfolding within
-there d c l e = go (eqb d c)
-  where
-    go : (x : Bool) → pick x true (within d l) ≡ true
-    go true = refl
-    go false = e
-
-here-or-there : {P : Type 0} (d c : ℕ) (l : List ℕ) → within d (c ∷ l) ≡ true → (d ≡ c → P) → (within d l ≡ true → P) → P
-unfolding within
-here-or-there d c l e f g = by-test (eqb d c) _ _ _ e (λ t _. f (eqb-true d c t)) (λ _ q. g q)
-
-nowhere : (d : ℕ) → within d [] ≡ true → ⊥
-unfolding within
-nowhere d e = clash cc
 
 -- each is below the next
 abbrev Next : ℕ → List ℕ → Type 0
@@ -58,35 +39,35 @@ rest-rising : (c : ℕ) (l : List ℕ) → Next c l → Rising l
 rest-rising c [] h = tt
 rest-rising c (d ∷ l) h = h .1
 
-above : (c : ℕ) (l : List ℕ) → Next c l → (d : ℕ) → within d l ≡ true → c < d
+above : (c : ℕ) (l : List ℕ) → Next c l → (d : ℕ) → among d l ≡ true → c < d
 above c [] h d e = absurd (nowhere d e)
-above c (x ∷ l) h d e = here-or-there d x l e (λ q. omega (arith, q, h .0)) (λ q. omega (arith, h .0, above x l (h .1) d q))
+above c (x ∷ l) h d e = first-or-further d x l e (λ q. omega (arith, q, h .0)) (λ q. omega (arith, h .0, above x l (h .1) d q))
 
-least : (c : ℕ) (l : List ℕ) → Next c l → (d : ℕ) → within d (c ∷ l) ≡ true → c ≤ d
-least c l h d e = here-or-there d c l e (λ q. omega (arith, q)) (λ q. omega (arith, above c l h d q))
+least : (c : ℕ) (l : List ℕ) → Next c l → (d : ℕ) → among d (c ∷ l) ≡ true → c ≤ d
+least c l h d e = first-or-further d c l e (λ q. omega (arith, q)) (λ q. omega (arith, above c l h d q))
 
 -- what is chosen from a list
 pub record Chosen (l : List ℕ) (max : ℕ) (t : List ℕ) (c n : ℕ) (b : Bool) : Type 0 where
-  pub among : within c l ≡ true
+  pub listed : among c l ≡ true
   pub low : c ≤ max
-  pub first : (d : ℕ) → within d l ≡ true → Feasible t d → c ≤ d
+  pub first : (d : ℕ) → among d l ≡ true → Feasible t d → c ≤ d
   pub kind : Kind t c n b
 
 abbrev pub Found : List ℕ → ℕ → List ℕ → Choice → Type 0
 Found l max t (at c n b) = Chosen l max t c n b
-Found l max t nothing = (d : ℕ) → within d l ≡ true → d ≤ max → Feasible t d → ⊥
+Found l max t nothing = (d : ℕ) → among d l ≡ true → d ≤ max → Feasible t d → ⊥
 
 -- the first of the list will not do
 later :
     (c : ℕ) (l : List ℕ) (max : ℕ) (t : List ℕ) (x : Choice) → (Feasible t c → ⊥) → Found l max t x → Found (c ∷ l) max t x
 later c l max t (at d n b) h F =
     record {
-      among = there d c l (F .among);
+      listed = further d c l (F .listed);
       low = F .low;
-      first = λ e i f. here-or-there e c l i (λ q. absurd (h (subst (Feasible t) q f))) (λ q. F .first e q f);
+      first = λ e i f. first-or-further e c l i (λ q. absurd (h (subst (Feasible t) q f))) (λ q. F .first e q f);
       kind = F .kind;
     }
-later c l max t nothing h F = λ d i g f. here-or-there d c l i (λ q. h (subst (Feasible t) q f)) (λ q. F d q g f)
+later c l max t nothing h F = λ d i g f. first-or-further d c l i (λ q. h (subst (Feasible t) q f)) (λ q. F d q g f)
 
 found : (l : List ℕ) (max : ℕ) (t : List ℕ) → Rising l → Found l max t (choose l max t)
 unfolding choose
@@ -94,7 +75,7 @@ found [] max t r = λ d i g f. nowhere d i
 found (c ∷ l) max t r = go (ltb max c) refl (found l max t (rest-rising c l r))
   where
     take-it : (n : ℕ) (b : Bool) → c ≤ max → Kind t c n b → Chosen (c ∷ l) max t c n b
-    take-it n b g k = record { among = here c l; low = g; first = λ d i f. least c l r d i; kind = k }
+    take-it n b g k = record { listed = at-first c l; low = g; first = λ d i f. least c l r d i; kind = k }
 
     neither : c ≤ fewest t → c < cost false t asc (odd c) → Feasible t c → ⊥
     neither h g (inl f) = omega arith

@@ -123,7 +123,7 @@ module _ (t : List ℕ) (c n : ℕ) (small : c < 2000) where
 
 module _ (t : List ℕ) (short : length t ≤ limit) (chars : Chars t) (max c n : ℕ) (b : Bool) (G : Chosen capacities max t c n b) where
   small : c < 2000
-  small = omega (arith, capacity-most c (G .among))
+  small = omega (arith, capacity-most c (G .listed))
 
   n-low : n ≤ c
   n-low = within-size t c n small b (G .kind)
@@ -143,7 +143,7 @@ module _ (t : List ℕ) (short : length t ≤ limit) (chars : Chars t) (max c n 
 
   reads : readSymbol ws limit ≡ good t n b
   reads =
-      into t ws n b limit (rw length-ws (G .among)) (omega arith)
+      into t ws n b limit (rw length-ws (G .listed)) (omega arith)
       (roomy ws inAscii (length t) t n b (written .reads (padding n n (c - n)) (follows t c n small b (G .kind))) .1 limit short)
 
   used-ws : used ws ≡ n

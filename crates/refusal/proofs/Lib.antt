@@ -3,3 +3,4 @@ pub mod Tests
 pub mod Binds
 pub mod Over
 pub mod Chars
+pub mod Among

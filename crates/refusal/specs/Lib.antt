@@ -4,3 +4,4 @@ pub mod Pick
 pub mod Answers
 pub mod Over
 pub mod Chars
+pub mod Among

@@ -7,12 +7,13 @@ use lib.ListN.{length}
 use Rattle.refusal.specs.Answers.{Answer, good, refused}
 use Rattle.refusal.specs.Numbers.{unknown-identifier, zone-ends-inside, wrong-character, data-too-short, identifier-repeated}
 use Rattle.refusal.specs.Limits.{most-fields}
+use Rattle.refusal.specs.Among.{among}
 use Rattle.dictionary.specs.Dictionary.{Dictionary, allowed, find}
 use Rattle.dictionary.specs.declared.Kind.the-variants.{Numeric, Alphabetic, Alphanumeric}
 use Rattle.dictionary.specs.declared.Limit.the-variants.{UpTo}
 use Rattle.dictionary.specs.declared.Field.{Field}
 use Rattle.text.specs.declared.Version.the-variants.{V02}
-use Rattle.text.specs.Zone.{does, readData, taken, zone}
+use Rattle.text.specs.Zone.{does, readData, zone}
 use Rattle.text.specs.Header.{part, number, parts, known, readHeader}
 
 -- 6Q, 6W, 6X, 6Y, 6Z
@@ -51,7 +52,7 @@ pub samples : map fieldsIn
     ∷ refused wrong-character 6
     ∷ refused identifier-repeated 4
     ∷ []
-unfolding zone find readData does taken allowed
+unfolding zone find readData does among allowed
 samples = refl
 
 -- THE HEADER DC02FR011204103D103E01: days 4157 and 4158, type 01
@@ -77,5 +78,5 @@ counted (refused k p) = 1000 * k + p
 pub limits : map (λ l. counted (zone (many 66) most-fields [] 0 l))
     (long 64 ∷ long 65 ∷ (long 64 ++ (33 ∷ 32 ∷ [])) ∷ (long 64 ++ (33 ∷ 33 ∷ [])) ∷ (long 64 ++ (33 ∷ [])) ∷ [])
     ≡ 64 ∷ 27192 ∷ 20192 ∷ 16192 ∷ 17192 ∷ []
-unfolding zone find readData does taken allowed
+unfolding zone find readData does among allowed
 limits = refl

@@ -9,13 +9,14 @@ use Rattle.refusal.specs.Pick.{pick}
 use Rattle.refusal.specs.Answers.{Answer, good, refused, _>>=_, _>>_, check}
 use Rattle.refusal.specs.Numbers.{text-too-long, lent-too-short, no-mark, wrong-character, data-too-short, identifier-repeated, data-too-long, fixed-cut, too-many-fields, no-row}
 use Rattle.refusal.specs.Limits.{limit, most-fields}
-use Rattle.dictionary.specs.Dictionary.{Dictionary, allowed, fixed, full, rowAt}
+use Rattle.refusal.specs.Among.{among}
+use Rattle.dictionary.specs.Dictionary.{Dictionary, allowed, fixed, full, rowAt, rowsOf}
 use Rattle.dictionary.specs.declared.Limit.{Limit}
 use Rattle.dictionary.specs.declared.Limit.the-variants.{UpTo, NoLimit}
 use Rattle.dictionary.specs.declared.Row.{Row}
 use Rattle.dictionary.specs.declared.Field.{Field}
 use Rattle.text.specs.declared.Header.{Header}
-use Rattle.text.specs.Zone.{taken, zone}
+use Rattle.text.specs.Zone.{zone}
 use Rattle.text.specs.Header.{size, readHeader, writeHeader, theParts}
 use Rattle.text.specs.Signature.{readSignature, writeSignature}
 
@@ -106,7 +107,7 @@ unfoldable pub writeField : Dictionary → (slice : List ℕ) → (before : List
 writeField d slice before i f = do
   r ← rowAt d (f .row) i
   check (leb (f .start + f .length) (length slice)) no-row i
-  check (not (taken (f .row) before)) identifier-repeated i
+  check (not (among (f .row) (rowsOf before))) identifier-repeated i
   check (not (f .cut && fixed r)) fixed-cut i
   check (within (r .greatest) (f .length)) data-too-long i
   check (inTurn r [] (dataOf slice f)) wrong-character i

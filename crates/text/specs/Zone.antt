@@ -7,7 +7,8 @@ use lib.ListN.{length}
 use Rattle.refusal.specs.Pick.{pick}
 use Rattle.refusal.specs.Answers.{Answer, good, refused, _>>=_, _>>_, check}
 use Rattle.refusal.specs.Numbers.{zone-ends-inside, wrong-character, data-too-short, identifier-repeated, too-many-fields}
-use Rattle.dictionary.specs.Dictionary.{Dictionary, allowed, fixed, full, find}
+use Rattle.refusal.specs.Among.{among}
+use Rattle.dictionary.specs.Dictionary.{Dictionary, allowed, fixed, full, find, rowsOf}
 use Rattle.dictionary.specs.declared.Row.{Row}
 use Rattle.dictionary.specs.declared.Field.{Field}
 use Rattle.text.specs.declared.Does.{Does}
@@ -41,11 +42,6 @@ unfoldable pub readData : Row → (at : ℕ) → (chars : List ℕ) → (p : ℕ
 readData r at chars p [] = pick (full r chars) (good (record { chars = chars; cut = false; next = p; rest = [] })) (refused zone-ends-inside at)
 readData r at chars p (c ∷ l) = onDoes (does r chars c) chars c p l (readData r at (chars ++ (c ∷ [])) (suc p) l)
 
--- does a field of the row n stand in the list?
-unfoldable pub taken : ℕ → List Field → Bool
-taken n [] = false
-taken n (f ∷ l) = eqb n (f .row) || taken n l
-
 -- the identifier at the front: none at the end, 17 for half of one
 abbrev pub identifier : {A : Type 0} → (p : ℕ) → List ℕ → Answer A → ((a b : ℕ) → List ℕ → Answer A) → Answer A
 identifier p [] none some = none
@@ -56,11 +52,11 @@ identifier p (a ∷ b ∷ l) none some = some a b l
 unfoldable pub zone : Dictionary → (room : ℕ) → (before : List Field) → (p : ℕ) → List ℕ → Answer (List Field)
 zone d zero before p l = identifier p l (good before) λ a b l. do
   n ← find a b 0 p d
-  check (not (taken (n .number) before)) identifier-repeated p
+  check (not (among (n .number) (rowsOf before))) identifier-repeated p
   refused too-many-fields p
 zone d (suc room) before p l = identifier p l (good before) λ a b l. do
   n ← find a b 0 p d
-  check (not (taken (n .number) before)) identifier-repeated p
+  check (not (among (n .number) (rowsOf before))) identifier-repeated p
   x ← readData (n .row) p [] (p + 2) l
   check (leb (n .row .least) (length (x .chars))) data-too-short p
   zone d room (before ++ (record { row = n .number; start = p + 2; length = length (x .chars); cut = x .cut } ∷ [])) (x .next) (x .rest)

@@ -15,7 +15,8 @@ use Rattle.refusal.specs.Answers.{Answer, good, refused, _>>=_, _>>_, check}
 use Rattle.refusal.specs.Numbers.{unknown-identifier, zone-ends-inside, data-too-short, identifier-repeated, too-many-fields}
 use Rattle.refusal.specs.Limits.{most-fields}
 use Rattle.refusal.specs.declared.Refusal.{Refusal}
-use Rattle.dictionary.specs.Dictionary.{Dictionary, find}
+use Rattle.refusal.specs.Among.{among}
+use Rattle.dictionary.specs.Dictionary.{Dictionary, find, rowsOf}
 use Rattle.dictionary.specs.Lookup.{soFar, foundSays}
 use Rattle.dictionary.specs.Rows.{rows, rowCount}
 use Rattle.dictionary.specs.declared.Row.{Row}
@@ -23,7 +24,7 @@ use Rattle.dictionary.specs.declared.Field.{Field}
 use Rattle.dictionary.specs.declared.Found.{Found}
 use Rattle.dictionary.specs.declared.Found.the-variants.{At, Unknown}
 use Rattle.dictionary.proofs.Rows.{find-below, rows-many}
-use Rattle.text.specs.Zone.{Piece, readData, taken, zone}
+use Rattle.text.specs.Zone.{Piece, readData, zone}
 use Rattle.text_reader.specs.Code.{dataSays, Read, fieldOf, rowSays, RowFits, Marks, fieldSays, FieldFits}
 use Rattle.text_reader.specs.declared.DataRead.{DataRead}
 use Rattle.text_reader.specs.declared.DataRead.the-variants.{Data, Refused}
@@ -68,12 +69,12 @@ module _ (d : Dictionary) (before : List Field) (p : ℕ) where
     unknown (suc m) k q e = rw e
 
     module _ (n : ℕ) (r : Row) (e : find a b 0 p d ≡ good (record { number = n; row = r })) where
-      repeated : (m : ℕ) → taken n before ≡ true → refused identifier-repeated p ≡ zone d m before p (a ∷ b ∷ l)
+      repeated : (m : ℕ) → among n (rowsOf before) ≡ true → refused identifier-repeated p ≡ zone d m before p (a ∷ b ∷ l)
       unfolding zone
       repeated zero t = rw (e, t)
       repeated (suc m) t = rw (e, t)
 
-      full : taken n before ≡ false → refused too-many-fields p ≡ zone d 0 before p (a ∷ b ∷ l)
+      full : among n (rowsOf before) ≡ false → refused too-many-fields p ≡ zone d 0 before p (a ∷ b ∷ l)
       unfolding zone
       full t = rw (e, t)
 
@@ -89,7 +90,7 @@ module _ (d : Dictionary) (before : List Field) (p : ℕ) where
       within m (good x) = passed m x (leb (r .least) (length (x .chars)))
       within m (refused k q) = refl
 
-      one : (m : ℕ) → taken n before ≡ false → (fieldOf n r p l >>= on m) ≡ zone d (suc m) before p (a ∷ b ∷ l)
+      one : (m : ℕ) → among n (rowsOf before) ≡ false → (fieldOf n r p l >>= on m) ≡ zone d (suc m) before p (a ∷ b ∷ l)
       unfolding zone
       one m t = rw (e, t) (within m (readData r p [] (p + 2) l))
 

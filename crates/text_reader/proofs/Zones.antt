@@ -3,7 +3,7 @@
 -- Assumes nothing.
 use Prim.Native.Nat.{ℕ, zero, suc, _+_, _-_, _≤_, _<_}
 use mathlib.Core.Bool.{Bool, true, false, _||_, or-true, or-false}
-use mathlib.Core.List.{List, [], _∷_, _++_}
+use mathlib.Core.List.{List, [], _∷_, _++_, map-append}
 use mathlib.Core.Path.{_≡_, refl, ap, sym, subst, _∙_}
 use native.Mathlib.Omega.{arith}
 use native.Mathlib.Numerals.{add-one}
@@ -14,11 +14,12 @@ use borrow.Author.Tests.{eqb-true, eqb-false}
 use Rattle.refusal.specs.Answers.{good, refused}
 use Rattle.refusal.specs.Limits.{most-fields}
 use Rattle.refusal.specs.declared.Refusal.{Refusal}
-use Rattle.dictionary.specs.Dictionary.{Dictionary}
+use Rattle.refusal.specs.Among.{among}
+use Rattle.dictionary.specs.Dictionary.{Dictionary, rowsOf}
 use Rattle.dictionary.specs.Rows.{rows, rowCount}
 use Rattle.dictionary.specs.declared.Field.{Field}
 use Rattle.dictionary.specs.declared.Fields.{Fields}
-use Rattle.text.specs.Zone.{taken, zone}
+use Rattle.text.specs.Zone.{zone}
 use Rattle.text_reader.specs.Answers.{noField, fieldsOf, zoneAnswer}
 use Rattle.text_reader.specs.Code.{Marks, fieldSays}
 use Rattle.text_reader.specs.declared.FieldRead.{FieldRead}
@@ -36,26 +37,29 @@ fields-more l f h =
     rw (add-one (length l), n, e)
 
 -- one row more among the marks
-taken-more : (n : ℕ) (l : List Field) (f : Field) → taken n (l ++ (f ∷ [])) ≡ (taken n l || eqb n (f .row))
-unfolding taken
-taken-more n [] f = or-false (eqb n (f .row))
-taken-more n (g ∷ l) f = go (eqb n (g .row)) (taken-more n l f)
+among-more : (n : ℕ) (l : List ℕ) (m : ℕ) → among n (l ++ (m ∷ [])) ≡ (among n l || eqb n m)
+unfolding among
+among-more n [] m = or-false (eqb n m)
+among-more n (k ∷ l) m = go (eqb n k) (among-more n l m)
   where
-    go : (b : Bool) → taken n (l ++ (f ∷ [])) ≡ (taken n l || eqb n (f .row)) → (b || taken n (l ++ (f ∷ []))) ≡ ((b || taken n l) || eqb n (f .row))
+    go : (b : Bool) → among n (l ++ (m ∷ [])) ≡ (among n l || eqb n m) → (b || among n (l ++ (m ∷ []))) ≡ ((b || among n l) || eqb n m)
     go true e = refl
     go false e = e
+
+one-more : (n : ℕ) (l : List Field) (f : Field) → among n (rowsOf (l ++ (f ∷ []))) ≡ (among n (rowsOf l) || eqb n (f .row))
+one-more n l f = ap (among n) (map-append (λ (f : Field). f .row) l (f ∷ [])) ∙ among-more n (rowsOf l) (f .row)
 
 marks-more : (used : List Bool) (l : List Field) (f : Field) → f .row < length used → Marks used l → Marks (set used (f .row) true) (l ++ (f ∷ []))
 marks-more used l f h m n k = go (eqb n (f .row)) refl
   where
-    go : (b : Bool) → eqb n (f .row) ≡ b → getD (set used (f .row) true) n false ≡ taken n (l ++ (f ∷ []))
+    go : (b : Bool) → eqb n (f .row) ≡ b → getD (set used (f .row) true) n false ≡ among n (rowsOf (l ++ (f ∷ [])))
     go true e =
         let q : n ≡ f .row = eqb-true n (f .row) e in
         ap (λ (i : ℕ). getD (set used (f .row) true) i false) q
-        ∙ (getD-set-same used (f .row) true false h ∙ sym (taken-more n l f ∙ (ap (λ (b : Bool). taken n l || b) e ∙ or-true (taken n l))))
+        ∙ (getD-set-same used (f .row) true false h ∙ sym (one-more n l f ∙ (ap (λ (b : Bool). among n (rowsOf l) || b) e ∙ or-true (among n (rowsOf l)))))
     go false e =
         getD-set-other used (f .row) n true false (eqb-false n (f .row) e)
-        ∙ (m n k ∙ sym (taken-more n l f ∙ (ap (λ (b : Bool). taken n l || b) e ∙ or-false (taken n l))))
+        ∙ (m n k ∙ sym (one-more n l f ∙ (ap (λ (b : Bool). among n (rowsOf l) || b) e ∙ or-false (among n (rowsOf l)))))
 
 -- the zone's end
 at-end : (d : Dictionary) (m p end : ℕ) (l : List Field) (text : List ℕ) → p ≡ end → zone d m l p (slice p end text) ≡ good l
@@ -74,7 +78,7 @@ pub record Filled (text : List ℕ) (start end : ℕ) (used : List Bool) (out : 
 
 module _ (text : List ℕ) (start end : ℕ) where
   pub filled-start : Filled text start end (replicate rowCount false) (fieldsOf []) start
-  unfolding taken
+  unfolding among
   filled-start = record { before = []; is = refl; few = omega arith; size = length-replicate rowCount false; marks = λ n h. getD-replicate rowCount n false false h; on = refl }
 
   module _ (used : List Bool) (out : Fields) (p : ℕ) (h : Filled text start end used out p) where

@@ -9,11 +9,13 @@ use lib.Seq.{slice}
 use Rattle.refusal.specs.Answers.{Answer, good, refused, _>>=_, _>>_, check}
 use Rattle.refusal.specs.Numbers.{data-too-short, refusal}
 use Rattle.refusal.specs.Limits.{most-fields}
+use Rattle.refusal.specs.Among.{among}
+use Rattle.dictionary.specs.Dictionary.{rowsOf}
 use Rattle.dictionary.specs.Rows.{rows, rowCount}
 use Rattle.dictionary.specs.Lookup.{soFar}
 use Rattle.dictionary.specs.declared.Row.{Row}
 use Rattle.dictionary.specs.declared.Field.{Field}
-use Rattle.text.specs.Zone.{Piece, readData, taken, zone}
+use Rattle.text.specs.Zone.{Piece, readData, zone}
 use Rattle.text.specs.Header.{Headed, size}
 use Rattle.text.specs.Signature.{readSignature}
 use Rattle.text.specs.Text.{Reading}
@@ -68,7 +70,7 @@ RowFits (NoField w) p end = Unit {0}
 
 -- the rows that the fields take are those that are marked
 abbrev pub Marks : List Bool → List Field → Type 0
-Marks used before = (n : ℕ) → n < rowCount → getD used n false ≡ taken n before
+Marks used before = (n : ℕ) → n < rowCount → getD used n false ≡ among n (rowsOf before)
 
 -- what reading on would answer, behind the fields before
 abbrev pub fieldSays : FieldRead → List ℕ → (end count : ℕ) → List Field → Answer (List Field)

@@ -1,5 +1,4 @@
--- The checks of a record, each at the test that decides it: a number looked for in a list place by place, characters that stand in
--- turn, and the mark behind the data. By cases on the test.
+-- The checks of a record, each at the test that decides it: characters that stand in turn, and the mark behind the data. By cases on the test.
 -- Assumes nothing.
 use Prim.Native.Nat.{ℕ, _+_, _≤_, _<_}
 use mathlib.Core.Bool.{Bool, true, false}
@@ -20,20 +19,7 @@ use Rattle.text.specs.declared.Version.the-variants.{V02, V03, V04}
 use Rattle.text.specs.Header.{size, digits, headerChars}
 use Rattle.text.specs.Signature.{lengthOfBytes}
 use Rattle.text.specs.Text.{inTurn, spelled}
-use Rattle.text_writer.specs.Writing.{among, markOf}
-
-module _ (n : ℕ) (l : List ℕ) where
-  pub among-here : (i : ℕ) → i < length l → n ≡ getD l i 0 → true ≡ among n (drop i l)
-  unfolding among
-  among-here i h e = rw (drop-cons l i 0 h, eq-eqb n (getD l i 0) e)
-
-  pub among-next : (i : ℕ) → i < length l → (n ≡ getD l i 0 → ⊥) → among n (drop (i + 1) l) ≡ among n (drop i l)
-  unfolding among
-  among-next i h e = rw (add-one i, drop-cons l i 0 h, ne-eqb n (getD l i 0) e)
-
-  pub among-none : (i : ℕ) → length l ≤ i → false ≡ among n (drop i l)
-  unfolding among
-  among-none i h = rw (drop-of-length-le l {i = i} h)
+use Rattle.text_writer.specs.Writing.{markOf}
 
 module _ (r : Row) (l : List ℕ) where
   pub turn-wrong : (i : ℕ) → i < length l → allowed r (take i l) (getD l i 0) ≡ false → false ≡ inTurn r (take i l) (drop i l)

@@ -12,17 +12,17 @@ use borrow.Author.Tests.{le-leb, lt-leb}
 use Rattle.refusal.specs.Answers.{good, refused}
 use Rattle.refusal.specs.Numbers.{wrong-character, data-too-short, identifier-repeated, data-too-long, fixed-cut, no-row}
 use Rattle.refusal.specs.declared.Refusal.{Refusal as RefusalOf}
-use Rattle.dictionary.specs.Dictionary.{Dictionary, fixed, rowAt}
+use Rattle.refusal.specs.Among.{among}
+use Rattle.dictionary.specs.Dictionary.{Dictionary, fixed, rowAt, rowsOf}
 use Rattle.dictionary.specs.Lookup.{rowFoundSays}
 use Rattle.dictionary.specs.Rows.{rows}
 use Rattle.dictionary.specs.declared.Row.{Row}
 use Rattle.dictionary.specs.declared.RowFound.{RowFound}
 use Rattle.dictionary.specs.declared.Field.{Field}
-use Rattle.text.specs.Zone.{taken}
 use Rattle.text.specs.Text.{dataOf, within, inTurn, spelled, writeField}
 use Rattle.text_writer.specs.declared.Room.{Room}
 use Rattle.text_writer.specs.declared.Room.the-variants.{Takes, Refused}
-use Rattle.text_writer.specs.Writing.{roomOf, Below, rowsOf, among, writeData}
+use Rattle.text_writer.specs.Writing.{roomOf, Below, writeData}
 
 -- a refusal is below any bound
 pub refused-below : (m : ℕ) {x : Room} {k p : ℕ} → x ≡ roomOf (refused k p) → Below m x
@@ -56,11 +56,6 @@ module _ (r : Row) (chars : List ℕ) (cut : Bool) (i : ℕ) where
         data-good l = rw (a, b, t, le-leb (r .least) (length chars) l)
 
 -- the rows of the records before it tell whether a record repeats one
-pub among-rows : (n : ℕ) (l : List Field) → among n (rowsOf l) ≡ taken n l
-unfolding among taken
-among-rows n [] = refl
-among-rows n (f ∷ l) = ap (λ b. eqb n (f .row) || b) (among-rows n l)
-
 pub data-length : (s : List ℕ) (f : Field) → f .start + f .length ≤ length s → length (dataOf s f) ≡ f .length
 data-length s f h = length-take-le (f .length) (drop (f .start) s) (omega (arith, length-drop (f .start) s))
 
@@ -75,11 +70,11 @@ module _ (d : Dictionary) (s : List ℕ) (before : List Field) (i : ℕ) (f : Fi
     field-outside h = rw (e, lt-leb (f .start + f .length) (length s) h)
 
     module _ (h : f .start + f .length ≤ length s) where
-      pub field-repeated : taken (f .row) before ≡ true → roomOf (refused identifier-repeated i) ≡ roomOf (writeField d s before i f)
+      pub field-repeated : among (f .row) (rowsOf before) ≡ true → roomOf (refused identifier-repeated i) ≡ roomOf (writeField d s before i f)
       unfolding writeField
       field-repeated t = rw (e, le-leb (f .start + f .length) (length s) h, t)
 
-      pub field-data : taken (f .row) before ≡ false → writeData r (dataOf s f) (f .cut) i ≡ writeField d s before i f
+      pub field-data : among (f .row) (rowsOf before) ≡ false → writeData r (dataOf s f) (f .cut) i ≡ writeField d s before i f
       unfolding writeField writeData
       field-data t = rw (e, le-leb (f .start + f .length) (length s) h, t, data-length s f h)
 

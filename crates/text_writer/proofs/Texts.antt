@@ -15,7 +15,8 @@ use Rattle.refusal.specs.Limits.{limit, most-fields}
 use Rattle.refusal.specs.Over.{over}
 use Rattle.refusal.specs.declared.Refusal.{Refusal as RefusalOf}
 use Rattle.refusal.proofs.Binds.{by-bind, by-check, by-or, same-good}
-use Rattle.dictionary.specs.Dictionary.{Dictionary, fixed, rowAt}
+use Rattle.refusal.specs.Among.{among}
+use Rattle.dictionary.specs.Dictionary.{Dictionary, fixed, rowAt, rowsOf}
 use Rattle.dictionary.specs.declared.Row.{Row}
 use Rattle.dictionary.specs.declared.Field.{Field}
 use Rattle.dictionary.specs.declared.Fields.{Fields}
@@ -24,7 +25,6 @@ use Rattle.text.specs.declared.Header.{Header}
 use Rattle.text.specs.declared.Version.{Version}
 use Rattle.text.specs.Header.{versionOf, headerChars, writeHeader}
 use Rattle.text.specs.Signature.{lengthOfBytes, writeSignature}
-use Rattle.text.specs.Zone.{taken}
 use Rattle.text.specs.Text.{Message, dataOf, within, inTurn, writeField, writeZone, writing, writeText}
 use Rattle.text_writer.specs.declared.Room.{Room}
 use Rattle.text_writer.specs.declared.Room.the-variants.{Takes, Refused as NoRoom}
@@ -115,7 +115,7 @@ unfolding writeField
 field-good d s before i f x e =
     by-bind (rowAt d (f .row) i) _ e λ r er e.
     by-check (leb (f .start + f .length) (length s)) _ _ _ e λ h e.
-    by-check (not (taken (f .row) before)) _ _ _ e λ _ e.
+    by-check (not (among (f .row) (rowsOf before))) _ _ _ e λ _ e.
     by-check (not (f .cut && fixed r)) _ _ _ e λ _ e.
     by-check (within (r .greatest) (f .length)) _ _ _ e λ _ e.
     by-check (inTurn r [] (dataOf s f)) _ _ _ e λ _ e.

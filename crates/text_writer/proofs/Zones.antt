@@ -2,7 +2,7 @@
 -- By cases on what one record and the rest answer. Assumes nothing.
 use Prim.Native.Nat.{ℕ, suc, _+_, _≤_, _<_}
 use mathlib.Core.Bool.{false}
-use mathlib.Core.List.{List, [], _∷_, _++_}
+use mathlib.Core.List.{List, [], _∷_, _++_, map-append}
 use mathlib.Core.Path.{_≡_, refl, sym, ap, _∙_}
 use native.Mathlib.Numerals.{add-one}
 use native.Mathlib.Omega.{arith}
@@ -11,12 +11,12 @@ use lib.Seq.{take-all, take-suc, take-suc-set, drop-cons, getD-take, length-take
 use Rattle.refusal.specs.Answers.{Answer, good, refused, _>>=_}
 use Rattle.refusal.specs.Numbers.{refusal}
 use Rattle.refusal.specs.declared.Refusal.{Refusal as RefusalOf}
-use Rattle.dictionary.specs.Dictionary.{Dictionary}
+use Rattle.dictionary.specs.Dictionary.{Dictionary, rowsOf}
 use Rattle.dictionary.specs.declared.Field.{Field}
 use Rattle.text.specs.Text.{writeField, writeZone}
 use Rattle.text_writer.specs.declared.Room.{Room}
 use Rattle.text_writer.specs.declared.Room.the-variants.{Takes, Refused}
-use Rattle.text_writer.specs.Writing.{roomOf, rowsOf}
+use Rattle.text_writer.specs.Writing.{roomOf}
 
 -- the room of n characters and of those behind them
 abbrev pub behind : ℕ → Answer (List ℕ) → Room
@@ -38,8 +38,7 @@ first-refused (good l) g n e f = never e f
 first-refused (refused k p) g n e f = e
 
 rows-append : (l : List Field) (f : Field) → rowsOf (l ++ (f ∷ [])) ≡ rowsOf l ++ (f .row ∷ [])
-rows-append [] f = refl
-rows-append (g ∷ l) f = ap (λ m. g .row ∷ m) (rows-append l f)
+rows-append l f = map-append (λ (f : Field). f .row) l (f ∷ [])
 
 one-behind : (w z : Answer (List ℕ)) (n m : ℕ) → Takes m ≡ roomOf w → behind (n + m) z ≡ behind n (w >>= λ x. z >>= λ y. good (x ++ y))
 one-behind (good l) (good y) n m e = let k : (n + m) + length y ≡ n + length (l ++ y) = omega (arith, same-room e, length-append l y) in ap Takes k

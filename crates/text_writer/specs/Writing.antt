@@ -56,14 +56,6 @@ abbrev pub Below : ℕ → Room → Type 0
 Below m (Takes n) = n < m
 Below m (NoRoom r) = Unit {0}
 
--- the rows of the records, and whether a number is among them
-abbrev pub rowsOf : List Field → List ℕ
-rowsOf l = map (λ (f : Field). f .row) l
-
-unfoldable pub among : ℕ → List ℕ → Bool
-among n [] = false
-among n (m ∷ l) = eqb n m || among n l
-
 -- a record's checks that look at its data: 26, 25, 18, 19
 unfoldable pub writeData : Row → (chars : List ℕ) → (cut : Bool) → (i : ℕ) → Answer (List ℕ)
 writeData r chars cut i = do

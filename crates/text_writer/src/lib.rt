@@ -13,15 +13,16 @@ ghost use mathlib.Core.List.{List, []};
 ghost use Prim.Native.Nat.{_+_, _*_, _<_, _≤_};
 ghost use lib.ListN.{length, getD, take};
 ghost use Rattle.refusal.specs.Over.{over};
+ghost use Rattle.refusal.specs.Among.{among};
 ghost use Rattle.refusal.specs.Answers.{good, refused};
-ghost use Rattle.dictionary.specs.Dictionary.{fixed};
+ghost use Rattle.dictionary.specs.Dictionary.{fixed, rowsOf};
 ghost use Rattle.dictionary.specs.Rows.{rows as theRows};
 ghost use Rattle.dictionary.specs.Lookup.{rowTable};
 ghost use Rattle.dictionary.specs.declared.Field.{Field as FieldOf};
 ghost use Rattle.text.specs.Header.{size, versionOf, headerChars, writeHeader};
 ghost use Rattle.text.specs.Signature.{lengthOfBytes};
 ghost use Rattle.text.specs.Text.{within, inTurn, spelled, writeField, writeZone, writing};
-ghost use Rattle.text_writer.specs.Writing.{messageOf, writeFirst, textWritten, writtenOver, widest, roomOf, Below, rowsOf, among, writeData, markOf, Inside, fieldChars, zoneChars, textChars};
+ghost use Rattle.text_writer.specs.Writing.{messageOf, writeFirst, textWritten, writtenOver, widest, roomOf, Below, writeData, markOf, Inside, fieldChars, zoneChars, textChars};
 
 // The length of the text that was written.
 pub enum TextWritten {

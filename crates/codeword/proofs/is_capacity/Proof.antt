@@ -1,25 +1,24 @@
 -- `is_capacity` meets its contract: what is sought stands in the table exactly when it stands in the part not yet looked at.
 -- Assumes nothing.
-use mathlib.Core.Path.{_≡_, refl, sym, ap, _∙_}
-use Prim.Native.Nat.{ℕ, _-_, _≤_}
+use mathlib.Core.Path.{_≡_, refl, sym, _∙_}
+use Prim.Native.Nat.{_-_, _≤_}
 use native.Mathlib.Omega.{arith}
 use lib.ListN.{drop}
-use Rattle.codeword.specs.Sizes.{within, capacities}
-use Rattle.codeword.proofs.Sizes.{hit, miss}
+use Rattle.refusal.specs.Among.{among}
+use Rattle.refusal.proofs.Among.{among-here, among-next, among-none}
+use Rattle.codeword.specs.Sizes.{capacities}
 use Rattle.codeword.proofs.is_capacity.Statement.{statement}
 use Rattle.codeword.proofs.is_capacity.Tie as tie
-use Rattle.codeword.proofs.is_capacity.Reads as reads
-use Rattle.codeword.proofs.is_capacity.Lts as lts
 
 abbrev Inv-loop : tie.InvT-loop
-Inv-loop n sizes i₀ i = (within n capacities ≡ within n (drop i capacities)) × (i ≤ 24)
+Inv-loop n sizes i₀ i = (i ≤ 24) × (among n (drop i capacities) ≡ among n capacities)
 
 abbrev μ-loop : tie.MeasureT-loop
 μ-loop n sizes i₀ i = 24 - i
 
 loop-holds : tie.Need-loop-holds Inv-loop μ-loop
 unfolding capacities
-loop-holds c = (refl, omega arith)
+loop-holds c = (omega arith, refl)
 
 mul-if1 : tie.Need-mul-if1 Inv-loop μ-loop
 mul-if1 c = omega arith
@@ -30,8 +29,8 @@ array-read-if1 c = omega arith
 returns : tie.Need-returns Inv-loop μ-loop
 unfolding capacities
 returns c =
-    let c2 = c .before .before in
-    sym (c2 .loop .inv .0 ∙ hit _ capacities (c2 .loop .i) (omega arith) (c .if1 .taken))
+    let l = c .before .before .loop in
+    among-here _ capacities (l .i) (omega arith) (sym (c .if1 .taken)) ∙ l .inv .1
 
 add-i : tie.Need-add-i Inv-loop μ-loop
 add-i c = omega arith
@@ -42,15 +41,12 @@ loop-less c = omega arith
 loop-again : tie.Need-loop-again Inv-loop μ-loop
 unfolding capacities
 loop-again c =
-    let c2 = c .before .before in
-    (c2 .loop .inv .0 ∙ miss _ capacities (c2 .loop .i) (omega arith) (c .if1 .left), omega arith)
+    let l = c .before .before .loop in
+    (omega arith, among-next _ capacities (l .i) (omega arith) (λ q. c .if1 .left (sym q)) ∙ l .inv .1)
 
 returns-2 : tie.Need-returns-2 Inv-loop μ-loop
-unfolding within capacities
-returns-2 c =
-    let c1 = c .before in
-    let e : c1 .loop .i ≡ 24 = omega arith in
-    sym (c1 .loop .inv .0 ∙ ap (λ (k : ℕ). within (c1 .before .args .n) (drop k capacities)) e)
+unfolding capacities
+returns-2 c = let l = c .before .loop in among-none _ capacities (l .i) (omega arith) ∙ l .inv .1
 
 pub is-capacity-spec : {M : Type 1} → statement M
 is-capacity-spec =

@@ -3,8 +3,8 @@ use Prim.Native.Nat.{_-_, _≤_}
 use mathlib.Core.Path.{_≡_, refl, _∙_}
 use native.Mathlib.Omega.{arith}
 use lib.ListN.{length, drop}
-use Rattle.text_writer.specs.Writing.{among}
-use Rattle.text_writer.proofs.Checks.{among-here, among-next, among-none}
+use Rattle.refusal.specs.Among.{among}
+use Rattle.refusal.proofs.Among.{among-here, among-next, among-none}
 use borrow.Author.Needs.{needs}
 use Rattle.text_writer.proofs.is_taken.Statement.{statement}
 use Rattle.text_writer.proofs.is_taken.Tie as tie

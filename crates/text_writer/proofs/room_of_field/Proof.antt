@@ -3,9 +3,10 @@ use Prim.Native.Nat.{_+_, _≤_}
 use mathlib.Core.Path.{sym, ap, _∙_}
 use native.Mathlib.Omega.{arith}
 use lib.ListN.{length}
+use Rattle.refusal.specs.Among.{among}
 use Rattle.dictionary.specs.Rows.{rows as theRows}
-use Rattle.text_writer.specs.Writing.{roomOf, among, writeData}
-use Rattle.text_writer.proofs.Records.{refused-below, among-rows, row-is, part-is, field-nowhere, field-outside, field-repeated, field-data}
+use Rattle.text_writer.specs.Writing.{roomOf, writeData}
+use Rattle.text_writer.proofs.Records.{refused-below, row-is, part-is, field-nowhere, field-outside, field-repeated, field-data}
 use borrow.Author.Needs.{needs}
 use Rattle.text_writer.proofs.room_of_field.Statement.{statement}
 use Rattle.text_writer.proofs.room_of_field.Tie as tie
@@ -59,7 +60,7 @@ returns-3 c =
     let s = c .before .before .before .before .before .before .before .before .before .before .before .before .before .args in
     let r = row-is (s .f .row) _ (s .i) (c .before .before .before .before .before .before .before .before .before .before .row-number .ensures) (c .before .before .before .before .before .before .before .before .before .row-at .ensures) (c .before .before .before .before .before .before .before .found .given .1) in (
       λ before e. c .refuse3 .ensures ∙ field-repeated theRows (s .slice .now) before (s .i) (s .f) _ r (omega (arith, c .before .before .before .if1 .left, c .before .before .before .before .wide2 .ensures .0, c .before .before .before .before .before .wide .ensures .0))
-          (sym (among-rows (s .f .row) before) ∙ ap (among (s .f .row)) e ∙ sym (c .before .before .is-taken .ensures) ∙ c .before .if2 .taken),
+          (ap (among (s .f .row)) e ∙ sym (c .before .before .is-taken .ensures) ∙ c .before .if2 .taken),
       refused-below _ (c .refuse3 .ensures),
     )
 
@@ -83,7 +84,7 @@ returns-4 c =
       λ before e. c .room-of-data .ensures .0
           ∙ ap (λ l. roomOf (writeData (c .before .before .before .before .before .before .before .before .found .given .0 .0) l (s .f .cut) (s .i))) (part-is (s .slice .now) (c .before .before .before .before .before .before .wide .ensures .0) (c .before .before .before .before .before .wide2 .ensures .0))
           ∙ ap roomOf (field-data theRows (s .slice .now) before (s .i) (s .f) _ r h
-          (sym (among-rows (s .f .row) before) ∙ ap (among (s .f .row)) e ∙ sym (c .before .before .before .is-taken .ensures) ∙ c .before .before .if2 .left)),
+          (ap (among (s .f .row)) e ∙ sym (c .before .before .before .is-taken .ensures) ∙ c .before .before .if2 .left)),
       c .room-of-data .ensures .1,
     )
 

@@ -7,8 +7,9 @@ use native.Mathlib.Omega.{arith}
 use lib.ListN.{length, take, drop, length-set}
 use lib.Seq.{length-take-le}
 use Rattle.dictionary.specs.Rows.{rows as theRows}
+use Rattle.dictionary.specs.Dictionary.{rowsOf}
 use Rattle.text.specs.Text.{writeZone}
-use Rattle.text_writer.specs.Writing.{widest, roomOf, Below, rowsOf}
+use Rattle.text_writer.specs.Writing.{widest, roomOf, Below}
 use Rattle.text_writer.proofs.Records.{told-below}
 use Rattle.text_writer.proofs.Whole.{in-list}
 use Rattle.text_writer.proofs.Zones.{behind, behind-none, zone-refused, zone-next, zone-end, rows-next}
