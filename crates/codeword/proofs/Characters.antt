@@ -1,7 +1,7 @@
 -- The set and the number of a character are right: in that set, that number is the character. One computed test over the 128.
 -- Assumes nothing.
 use Prim.Native.Nat.{ℕ, _<_}
-use mathlib.Core.Bool.{Bool, true, false}
+use mathlib.Core.Bool.{Bool, false}
 use mathlib.Core.Path.{_≡_, ap}
 use lib.Dec.{T, ltb, eqb, eqb→eq, ltb→lt}
 use Rattle.refusal.proofs.Tests.{below, at-below}

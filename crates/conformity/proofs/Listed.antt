@@ -12,15 +12,15 @@ use lib.ListN.{length, getD, set, take, drop, length-take, drop-of-length-le, Li
 use lib.Seq.{getD-set-same, getD-set-other, drop-cons}
 use borrow.Author.Tests.{eqb-true, eqb-false, ltb-true, ltb-false}
 use Rattle.refusal.specs.Pick.{pick}
-use Rattle.refusal.specs.Answers.{Answer, good, refused, _>>_, check}
-use Rattle.refusal.specs.Numbers.{type-not-covered, identifier-missing, identifier-not-permitted}
+use Rattle.refusal.specs.Answers.{Answer, good, _>>_, check}
+use Rattle.refusal.specs.Numbers.{type-not-covered, identifier-not-permitted}
 use Rattle.dictionary.specs.declared.Field.{Field}
 use Rattle.dictionary.specs.Rows.{rowCount}
 use Rattle.refusal.proofs.Binds.{left, right, clash}
 use Rattle.refusal.specs.Among.{among}
 use Rattle.dictionary.specs.Dictionary.{rowsOf}
 use Rattle.conformity.specs.declared.Seen.{Seen}
-use Rattle.conformity.specs.Tables.{Mark, O, F, no, Exchange, Table, tables, domicile, academic}
+use Rattle.conformity.specs.Tables.{Mark, O, F, no, Exchange, Table, domicile, academic}
 use Rattle.conformity.specs.Conformity.{columnOf, tableAt, markOf, mandatory, permitted, every, replaced, there, complete, allowed, conforms}
 use Rattle.conformity.specs.Noted.{markCode, marksOf, answered, begun, markAt, isBarred, isMissing, isThere, met, noted, notedAll, noneMissing, decided}
 use Rattle.conformity.proofs.Marks.{mark-at}

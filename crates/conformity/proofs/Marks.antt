@@ -2,15 +2,15 @@
 -- Assumes nothing.
 use Prim.Native.Nat.{ℕ, zero, suc, _+_, _≤_, _<_}
 use mathlib.Core.Bool.{Bool, true, false}
-use mathlib.Core.List.{[], _∷_}
-use mathlib.Core.Path.{_≡_, refl, ap, sym, _∙_}
+use mathlib.Core.List.{_∷_}
+use mathlib.Core.Path.{_≡_, refl, ap, _∙_}
 use native.Mathlib.Omega.{arith}
 use lib.Dec.{ltb}
 use lib.ListN.{length, getD, replicate, List·getD-eq-default}
-use borrow.Author.Tests.{ltb-true, ltb-false, le-ltb}
+use borrow.Author.Tests.{ltb-true, ltb-false}
 use Rattle.refusal.specs.Pick.{pick}
 use Rattle.dictionary.specs.Rows.{rowCount}
-use Rattle.conformity.specs.Tables.{Mark, no, Table, tables}
+use Rattle.conformity.specs.Tables.{Mark, no, tables}
 use Rattle.conformity.specs.Conformity.{none, tableAt, markOf}
 use Rattle.conformity.specs.Noted.{codeOf, marksOf}
 

@@ -1,14 +1,13 @@
 -- Laws for the code's steps, over plain arguments: a footnote, a row that is there or missing, a field that is noted, the verdict.
 -- Assumes nothing.
-use Prim.Native.Nat.{ℕ, zero, suc, _+_, _*_, _-_, _≤_, _<_}
+use Prim.Native.Nat.{ℕ, zero, suc, _+_, _-_, _≤_, _<_}
 use native.Mathlib.Numerals.{add-one}
 use mathlib.Core.Bool.{Bool, true, false, not, _&&_, _||_}
 use mathlib.Core.List.{List, [], _∷_}
 use mathlib.Core.Path.{_≡_, refl, ap, sym, _∙_}
 use native.Mathlib.Omega.{arith}
-use lib.Dec.{ltb, eqb}
 use lib.ListN.{length, set, List·getD-eq-default}
-use borrow.Author.Tests.{eq-eqb, ne-eqb, lt-ltb, le-ltb}
+use borrow.Author.Tests.{ne-eqb, lt-ltb, le-ltb}
 use Rattle.refusal.specs.Pick.{pick}
 use Rattle.refusal.specs.Among.{among}
 use Rattle.refusal.specs.Answers.{Answer, good, refused, _>>_, check}
@@ -16,11 +15,10 @@ use Rattle.refusal.specs.Numbers.{type-not-covered, identifier-missing, identif
 use Rattle.dictionary.specs.declared.Field.{Field}
 use Rattle.dictionary.specs.Rows.{rowCount}
 use Rattle.refusal.proofs.Binds.{clash}
-use Rattle.conformity.specs.declared.Conformity.{Conformity}
 use Rattle.conformity.specs.declared.Conformity.the-variants.{Conforms, Refused}
 use Rattle.conformity.specs.declared.Seen.{Seen}
-use Rattle.conformity.specs.Tables.{Exchange, tables, footnote-star, footnote-6}
-use Rattle.conformity.specs.Conformity.{none, tableAt, replaced}
+use Rattle.conformity.specs.Tables.{Exchange, footnote-star, footnote-6}
+use Rattle.conformity.specs.Conformity.{tableAt, replaced}
 use Rattle.conformity.specs.Noted.{answered, seen, markAt, isThere, wrongAt, noted, missingSays, noneMissing, decided}
 
 -- a test among others that computed away

@@ -5,7 +5,7 @@ use mathlib.Core.List.{List, [], _∷_}
 use lib.Dec.{ltb, eqb}
 use lib.ListN.{getD}
 use Rattle.refusal.specs.Pick.{pick}
-use Rattle.refusal.specs.Answers.{Answer, good, refused, _>>_, _>>=_, check}
+use Rattle.refusal.specs.Answers.{Answer, good, _>>_, _>>=_, check}
 use Rattle.refusal.specs.Numbers.{type-not-covered, identifier-missing, identifier-not-permitted}
 use Rattle.refusal.specs.Among.{among}
 use Rattle.dictionary.specs.declared.Field.{Field}

@@ -2,7 +2,7 @@
 -- codewords computed), symbols read and zones, computed over the definitions. With them ABCD within the size 3, and AIMAIMAIM.
 -- Assumes nothing.
 use mathlib.Core.Bool.{false}
-use mathlib.Core.List.{List, [], _∷_, map}
+use mathlib.Core.List.{[], _∷_, map}
 use mathlib.Core.Path.{_≡_, refl}
 use Prim.Native.Nat.{ℕ}
 use native.Mathlib.Omega.{arith}

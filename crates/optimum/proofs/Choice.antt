@@ -7,10 +7,9 @@ use mathlib.Core.List.{List, [], _∷_}
 use mathlib.Core.Logic.{_⊎_, inl, inr}
 use mathlib.Core.Path.{_≡_, refl, subst}
 use native.Mathlib.Omega.{arith}
-use lib.Dec.{ltb, eqb}
-use borrow.Author.Tests.{ltb-true, ltb-false, leb-true, leb-false, eqb-true, eq-eqb}
+use lib.Dec.{ltb}
+use borrow.Author.Tests.{ltb-true, ltb-false, leb-true, leb-false}
 use Rattle.refusal.specs.Pick.{pick}
-use Rattle.refusal.proofs.Tests.{clash, by-test}
 use Rattle.codeword.specs.Sizes.{capacities}
 use Rattle.refusal.specs.Among.{among}
 use Rattle.refusal.proofs.Among.{nowhere, first as at-first, further, first-or-further}

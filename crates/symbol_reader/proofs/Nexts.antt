@@ -9,7 +9,7 @@ use lib.Seq.{take-all}
 use Rattle.refusal.specs.Limits.{limit}
 use Rattle.refusal.specs.Numbers.{refusal}
 use Rattle.codeword.specs.declared.Set.{Set}
-use Rattle.codeword.specs.Reading.{Step, behind, end, inAscii, inC40, read}
+use Rattle.codeword.specs.Reading.{behind, end, inAscii, inC40, read}
 use Rattle.symbol_reader.specs.declared.SymbolRead.{SymbolRead}
 use Rattle.symbol_reader.specs.declared.SymbolRead.the-variants.{Refused}
 use Rattle.symbol_reader.specs.declared.Put.{Put}

@@ -3,21 +3,20 @@
 -- Assumes nothing.
 use mathlib.Core.Bool.{Bool, true, false, not, _||_}
 use mathlib.Core.List.{List, [], _∷_, _++_}
-use mathlib.Core.Logic.{_⊎_, inl, inr}
+use mathlib.Core.Logic.{inl, inr}
 use mathlib.Core.Path.{_≡_, refl, ap, sym, _∙_}
-use Prim.Native.Nat.{ℕ, suc, _-_, _≤_, _<_}
+use Prim.Native.Nat.{ℕ, suc, _-_, _≤_}
 use native.Mathlib.Omega.{arith}
 use lib.Dec.{ltb}
-use lib.ListN.{length, drop, getD}
+use lib.ListN.{length, drop}
 use borrow.Author.Tests.{ltb-true, ltb-false}
 use Rattle.refusal.specs.Limits.{limit}
 use Rattle.refusal.specs.Pick.{pick}
-use Rattle.refusal.specs.Numbers.{refusal, text-too-long, lent-too-short, character-above-127, not-a-capacity, no-size-fits}
-use Rattle.refusal.specs.declared.Refusal.{Refusal}
+use Rattle.refusal.specs.Numbers.{refusal, text-too-long, lent-too-short, character-above-127, not-a-capacity}
 use Rattle.codeword.specs.Sizes.{capacities, isCapacity}
 use Rattle.codeword.specs.Best.{used, Best, NoneFits}
 use Rattle.codeword.specs.Reading.{inAscii}
-use Rattle.optimum.specs.Write.{Choice, at, nothing, write, choose, padding, symbolOf}
+use Rattle.optimum.specs.Write.{Choice, at, nothing, write, choose, symbolOf}
 use Rattle.optimum.proofs.Values as Values
 use Rattle.optimum.proofs.Top.{right, Sized, sized}
 use Rattle.optimum.proofs.Top as Top
@@ -27,7 +26,7 @@ use Rattle.symbol_writer.specs.declared.SymbolWritten.the-variants.{Writ
 use Rattle.symbol_writer.specs.Rows.{workRoom}
 use Rattle.symbol_writer.specs.Moves.{Chars}
 use Rattle.symbol_writer.specs.Symbol.{Answer, firstAbove, zeros, withPads, inSize, writeSymbol, answered, symbolAfter, workAfter}
-use Rattle.symbol_writer.specs.Promise.{Stands, TooShort, Chosen, Promised, refusedEarly, workLeft}
+use Rattle.symbol_writer.specs.Promise.{Stands, TooShort, Chosen, Promised, workLeft}
 use Rattle.symbol_writer.proofs.Whole.{chars-of, symbol-is, work-cleared}
 
 listed : (t : List ℕ) → Chars t → Values.Chars t

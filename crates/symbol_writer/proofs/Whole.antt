@@ -7,7 +7,7 @@ use Prim.Native.Nat.{ℕ, zero, suc, _+_, _-_, min, _≤_, _<_}
 use native.Mathlib.Omega.{arith}
 use native.Mathlib.Numerals.{add-one}
 use lib.Dec.{ltb}
-use lib.ListN.{length, take, drop, getD, set, length-append, length-drop, List·getD-eq-default}
+use lib.ListN.{length, take, drop, getD, set, length-append, List·getD-eq-default}
 use lib.Seq.{drop-cons, drop-length, drop-at, take-at}
 use borrow.Author.Tests.{lt-ltb, le-ltb, ltb-false}
 use Rattle.refusal.specs.Pick.{pick}

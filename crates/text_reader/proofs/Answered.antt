@@ -11,7 +11,6 @@ use Rattle.dictionary.specs.declared.Field.{Field}
 use Rattle.text.specs.declared.HeaderRead.{HeaderRead}
 use Rattle.text.specs.declared.SignatureRead.{SignatureRead}
 use Rattle.text.specs.Header.{Headed}
-use Rattle.text.specs.Zone.{zone}
 use Rattle.text.specs.Code.{headerAnswer, signatureAnswer}
 use Rattle.text_reader.specs.Answers.{fieldsOf, zoneAnswer}
 use Rattle.text_reader.specs.declared.Outcome.the-variants.{Accepted, Refused}

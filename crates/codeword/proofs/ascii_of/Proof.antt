@@ -1,6 +1,6 @@
 -- `ascii_of` meets its contract: each arm of the match is a case of `ascii`, where a single number lets it compute.
 -- Assumes nothing.
-use mathlib.Core.Path.{_≡_, sym, ap}
+use mathlib.Core.Path.{sym, ap}
 use Prim.Native.Nat.{_≤_, _<_}
 use native.Mathlib.Omega.{arith}
 use borrow.Author.Tests.{le-leb, lt-leb, ne-eqb}
@@ -8,8 +8,6 @@ use Rattle.codeword.specs.Meanings.{ascii}
 use borrow.Author.Needs.{needs}
 use Rattle.codeword.proofs.ascii_of.Statement.{statement}
 use Rattle.codeword.proofs.ascii_of.Tie as tie
-use Rattle.codeword.proofs.ascii_of.Reads as reads
-use Rattle.codeword.proofs.ascii_of.Lts as lts
 
 sub-t4 : tie.Need-sub-t4
 sub-t4 c = search needs

@@ -1,14 +1,12 @@
 -- `basic_value` meets its contract: the arms of the match are the cases of `value`, where a single number lets it compute.
 -- Assumes nothing.
-use mathlib.Core.Path.{_≡_, sym, ap}
+use mathlib.Core.Path.{sym, ap}
 use borrow.Author.Tests.{le-ltb, lt-ltb, ne-eqb}
 use Rattle.codeword.specs.declared.Set.the-variants.{Basic}
 use Rattle.codeword.specs.Meanings.{value}
 use borrow.Author.Needs.{needs}
 use Rattle.codeword.proofs.basic_value.Statement.{statement}
 use Rattle.codeword.proofs.basic_value.Tie as tie
-use Rattle.codeword.proofs.basic_value.Reads as reads
-use Rattle.codeword.proofs.basic_value.Lts as lts
 
 add-t7 : tie.Need-add-t7
 add-t7 c = search needs

@@ -1,12 +1,10 @@
 -- `is_unfinished` meets its contract: in each arm the set is known.
 -- Assumes nothing.
-use mathlib.Core.Path.{_≡_, sym, ap}
+use mathlib.Core.Path.{sym, ap}
 use Rattle.codeword.specs.Meanings.{unfinished}
 use borrow.Author.Needs.{needs}
 use Rattle.codeword.proofs.is_unfinished.Statement.{statement}
 use Rattle.codeword.proofs.is_unfinished.Tie as tie
-use Rattle.codeword.proofs.is_unfinished.Reads as reads
-use Rattle.codeword.proofs.is_unfinished.Lts as lts
 
 enum-told : tie.Need-enum-told
 enum-told c = search needs

@@ -7,8 +7,6 @@ use borrow.Author.Tests.{le-leb, lt-leb, eq-eqb, ne-eqb}
 use Rattle.codeword.specs.Meanings.{lone}
 use Rattle.codeword.proofs.lone_of.Statement.{statement}
 use Rattle.codeword.proofs.lone_of.Tie as tie
-use Rattle.codeword.proofs.lone_of.Reads as reads
-use Rattle.codeword.proofs.lone_of.Lts as lts
 
 returns : tie.Need-returns
 unfolding lone

@@ -6,8 +6,6 @@ use borrow.Author.Needs.{needs}
 use Rattle.codeword.specs.Pads.{padAt}
 use Rattle.codeword.proofs.pad_at.Statement.{statement}
 use Rattle.codeword.proofs.pad_at.Tie as tie
-use Rattle.codeword.proofs.pad_at.Reads as reads
-use Rattle.codeword.proofs.pad_at.Lts as lts
 
 returns : tie.Need-returns
 unfolding padAt

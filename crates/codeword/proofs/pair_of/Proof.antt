@@ -5,8 +5,6 @@ use Rattle.codeword.specs.Meanings.{pair}
 use borrow.Author.Needs.{needs}
 use Rattle.codeword.proofs.pair_of.Statement.{statement}
 use Rattle.codeword.proofs.pair_of.Tie as tie
-use Rattle.codeword.proofs.pair_of.Reads as reads
-use Rattle.codeword.proofs.pair_of.Lts as lts
 
 mul-w : tie.Need-mul-w
 mul-w c = search needs

@@ -5,9 +5,6 @@ use borrow.Author.Needs.{needs}
 use Rattle.codeword.proofs.Places.{places, set-at, number-at}
 use Rattle.codeword.proofs.place_of.Statement.{statement}
 use Rattle.codeword.proofs.place_of.Tie as tie
-use Rattle.codeword.proofs.place_of.Reads as reads
-use Rattle.codeword.proofs.place_of.Lts as lts
-use Rattle.codeword.proofs.set_numbered.Reads as set-numbered-reads
 
 array-read-place : tie.Need-array-read-place
 array-read-place c = search needs

@@ -4,8 +4,6 @@ use borrow.Author.Tests.{le-ltb, lt-ltb}
 use Rattle.codeword.specs.Meanings.{value}
 use Rattle.codeword.proofs.set1_value.Statement.{statement}
 use Rattle.codeword.proofs.set1_value.Tie as tie
-use Rattle.codeword.proofs.set1_value.Reads as reads
-use Rattle.codeword.proofs.set1_value.Lts as lts
 
 returns : tie.Need-returns
 unfolding value

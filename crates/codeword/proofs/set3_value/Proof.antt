@@ -5,8 +5,6 @@ use Rattle.codeword.specs.Meanings.{value}
 use borrow.Author.Needs.{needs}
 use Rattle.codeword.proofs.set3_value.Statement.{statement}
 use Rattle.codeword.proofs.set3_value.Tie as tie
-use Rattle.codeword.proofs.set3_value.Reads as reads
-use Rattle.codeword.proofs.set3_value.Lts as lts
 
 add-t4 : tie.Need-add-t4
 add-t4 c = search needs

@@ -5,8 +5,6 @@ use borrow.Author.Tests.{ne-eqb}
 use Rattle.codeword.specs.Numbered.{setNumbered}
 use Rattle.codeword.proofs.set_numbered.Statement.{statement}
 use Rattle.codeword.proofs.set_numbered.Tie as tie
-use Rattle.codeword.proofs.set_numbered.Reads as reads
-use Rattle.codeword.proofs.set_numbered.Lts as lts
 
 returns : tie.Need-returns
 unfolding setNumbered

@@ -1,17 +1,11 @@
 -- `value_of` meets its contract: in each arm the set is known, and that set's function answers.
 -- Assumes nothing.
-use mathlib.Core.Path.{_≡_, sym, ap, _∙_}
+use mathlib.Core.Path.{sym, ap, _∙_}
 use Rattle.codeword.specs.declared.Set.{Set}
 use Rattle.codeword.specs.Meanings.{value}
 use borrow.Author.Needs.{needs}
 use Rattle.codeword.proofs.value_of.Statement.{statement}
 use Rattle.codeword.proofs.value_of.Tie as tie
-use Rattle.codeword.proofs.value_of.Reads as reads
-use Rattle.codeword.proofs.value_of.Lts as lts
-use Rattle.codeword.proofs.basic_value.Reads as basic-value-reads
-use Rattle.codeword.proofs.set1_value.Reads as set1-value-reads
-use Rattle.codeword.proofs.set2_value.Reads as set2-value-reads
-use Rattle.codeword.proofs.set3_value.Reads as set3-value-reads
 
 enum-told : tie.Need-enum-told
 enum-told c = search needs

@@ -7,9 +7,6 @@ use Rattle.ddoc.proofs.Numbers.{numbers, numbers-are}
 use borrow.Author.Needs.{needs}
 use Rattle.ddoc.proofs.ddoc_read_symbol.Statement.{statement}
 use Rattle.ddoc.proofs.ddoc_read_symbol.Tie as tie
-use Rattle.ddoc.proofs.ddoc_read_symbol.Reads as reads
-use Rattle.ddoc.proofs.ddoc_read_symbol.Lts as lts
-use Rattle.symbol_reader.proofs.read_symbol.Reads as read-symbol-reads
 
 read-symbol-requires : tie.Need-read-symbol-requires
 read-symbol-requires c κs = search needs

@@ -5,9 +5,6 @@ use Rattle.ddoc.specs.Answers.{writingAnswer}
 use borrow.Author.Needs.{needs}
 use Rattle.ddoc.proofs.ddoc_write_symbol.Statement.{statement}
 use Rattle.ddoc.proofs.ddoc_write_symbol.Tie as tie
-use Rattle.ddoc.proofs.ddoc_write_symbol.Reads as reads
-use Rattle.ddoc.proofs.ddoc_write_symbol.Lts as lts
-use Rattle.symbol_writer.proofs.write_symbol.Reads as write-symbol-reads
 
 write-symbol-requires : tie.Need-write-symbol-requires
 write-symbol-requires c κs = search needs

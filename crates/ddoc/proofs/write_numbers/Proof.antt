@@ -8,9 +8,6 @@ use Rattle.ddoc.proofs.Numbers.{text-numbers, text-numbers-are}
 use borrow.Author.Needs.{needs}
 use Rattle.ddoc.proofs.write_numbers.Statement.{statement}
 use Rattle.ddoc.proofs.write_numbers.Tie as tie
-use Rattle.ddoc.proofs.write_numbers.Reads as reads
-use Rattle.ddoc.proofs.write_numbers.Lts as lts
-use Rattle.text_writer.proofs.write_text.Reads as write-text-reads
 
 write-text-requires : tie.Need-write-text-requires
 write-text-requires c κs = search needs

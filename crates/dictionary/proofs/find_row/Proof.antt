@@ -1,6 +1,5 @@
 -- `find_row` meets its contract: every row stands at the place of its identifier, so one look there decides.
 -- Assumes nothing.
-use mathlib.Core.Path.{_≡_}
 use native.Mathlib.Omega.{arith}
 use Rattle.dictionary.specs.Lookup.{placeOf, noRow}
 use Rattle.dictionary.specs.Rows.{rows}

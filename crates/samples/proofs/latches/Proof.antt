@@ -1,14 +1,12 @@
 -- `latches` is safe and ends, and its answer keeps its length: a store changes no length.
 -- Assumes nothing.
-use Prim.Native.Nat.{_-_, _≤_}
+use Prim.Native.Nat.{_-_}
 use native.Mathlib.Omega.{arith}
 use lib.ListN.{length, length-set}
 use borrow.Author.Needs.{needs}
 use mathlib.Core.Path.{_≡_, refl}
 use Rattle.samples.proofs.latches.Statement.{statement}
 use Rattle.samples.proofs.latches.Tie as tie
-use Rattle.samples.proofs.latches.Reads as reads
-use Rattle.samples.proofs.latches.Lts as lts
 
 abbrev Inv-loop : tie.InvT-loop
 Inv-loop codewords₀ i₀ codewords i = 1558 ≡ length codewords

@@ -3,11 +3,8 @@
 use Prim.Native.Nat.{_-_, _≤_}
 use native.Mathlib.Omega.{arith}
 use lib.ListN.{length}
-use borrow.Author.Needs.{needs}
 use Rattle.samples.proofs.line_end.Statement.{statement}
 use Rattle.samples.proofs.line_end.Tie as tie
-use Rattle.samples.proofs.line_end.Reads as reads
-use Rattle.samples.proofs.line_end.Lts as lts
 
 abbrev Inv-loop : tie.InvT-loop
 Inv-loop all from i₀ i = (from ≤ i) × (i ≤ length all)

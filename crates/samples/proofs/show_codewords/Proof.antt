@@ -6,9 +6,6 @@ use lib.ListN.{length}
 use borrow.Author.Needs.{needs}
 use Rattle.samples.proofs.show_codewords.Statement.{statement}
 use Rattle.samples.proofs.show_codewords.Tie as tie
-use Rattle.samples.proofs.show_codewords.Reads as reads
-use Rattle.samples.proofs.show_codewords.Lts as lts
-use Rattle.samples.proofs.show_codeword.Reads as show-codeword-reads
 
 abbrev Inv-loop : tie.InvT-loop
 Inv-loop codewords i₀ i = i ≤ length codewords

@@ -2,14 +2,9 @@
 -- Assumes nothing.
 use Prim.Native.Nat.{_-_, _≤_}
 use native.Mathlib.Omega.{arith}
-use lib.ListN.{length}
 use borrow.Author.Needs.{needs}
 use Rattle.samples.proofs.show_fields.Statement.{statement}
 use Rattle.samples.proofs.show_fields.Tie as tie
-use Rattle.samples.proofs.show_fields.Reads as reads
-use Rattle.samples.proofs.show_fields.Lts as lts
-use Rattle.samples.proofs.field_at.Reads as field-at-reads
-use Rattle.samples.proofs.show_field.Reads as show-field-reads
 
 abbrev Inv-loop : tie.InvT-loop
 Inv-loop f i₀ i = i ≤ 64

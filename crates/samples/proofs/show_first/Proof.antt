@@ -6,9 +6,6 @@ use lib.ListN.{length}
 use borrow.Author.Needs.{needs}
 use Rattle.samples.proofs.show_first.Statement.{statement}
 use Rattle.samples.proofs.show_first.Tie as tie
-use Rattle.samples.proofs.show_first.Reads as reads
-use Rattle.samples.proofs.show_first.Lts as lts
-use Rattle.samples.proofs.show_codeword.Reads as show-codeword-reads
 
 abbrev Inv-loop : tie.InvT-loop
 Inv-loop symbol n i₀ i = i ≤ length symbol

@@ -6,9 +6,6 @@ use lib.ListN.{length}
 use borrow.Author.Needs.{needs}
 use Rattle.samples.proofs.show_text.Statement.{statement}
 use Rattle.samples.proofs.show_text.Tie as tie
-use Rattle.samples.proofs.show_text.Reads as reads
-use Rattle.samples.proofs.show_text.Lts as lts
-use Rattle.samples.proofs.show_character.Reads as show-character-reads
 
 abbrev Inv-loop : tie.InvT-loop
 Inv-loop text n i₀ i = i ≤ length text

@@ -6,10 +6,6 @@ use lib.ListN.{length}
 use borrow.Author.Needs.{needs}
 use Rattle.samples.proofs.show_texts.Statement.{statement}
 use Rattle.samples.proofs.show_texts.Tie as tie
-use Rattle.samples.proofs.show_texts.Reads as reads
-use Rattle.samples.proofs.show_texts.Lts as lts
-use Rattle.samples.proofs.line_end.Reads as line-end-reads
-use Rattle.samples.proofs.show_text_read.Reads as show-text-read-reads
 
 abbrev Inv-loop : tie.InvT-loop
 Inv-loop all from₀ from = from ≤ length all + 1

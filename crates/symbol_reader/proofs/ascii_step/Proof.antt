@@ -1,9 +1,8 @@
 -- `ascii_step` meets its contract: in each arm the meaning of the codeword is known, and that clause of the definition says what follows.
 -- Assumes nothing.
-use mathlib.Core.Path.{_≡_, sym, ap, _∙_}
-use Prim.Native.Nat.{_+_}
+use mathlib.Core.Path.{sym, _∙_}
 use native.Mathlib.Omega.{arith}
-use lib.ListN.{getD, drop}
+use lib.ListN.{drop}
 use Rattle.codeword.specs.declared.Ascii.the-variants as in-ascii
 use Rattle.codeword.specs.Reading.{behind, inAscii, read}
 use Rattle.symbol_reader.proofs.Clauses.{ascii-ends, ascii-is, ascii-latch, ascii-pad, ascii-wrong}
@@ -11,13 +10,6 @@ use Rattle.symbol_reader.proofs.Nexts.{refuses, then-ascii}
 use borrow.Author.Needs.{needs}
 use Rattle.symbol_reader.proofs.ascii_step.Statement.{statement}
 use Rattle.symbol_reader.proofs.ascii_step.Tie as tie
-use Rattle.symbol_reader.proofs.ascii_step.Reads as reads
-use Rattle.symbol_reader.proofs.ascii_step.Lts as lts
-use Rattle.codeword.proofs.ascii_of.Reads as ascii-of-reads
-use Rattle.symbol_reader.proofs.put_char.Reads as put-char-reads
-use Rattle.symbol_reader.proofs.put_two.Reads as put-two-reads
-use Rattle.symbol_reader.proofs.refuse.Reads as refuse-reads
-use Rattle.symbol_reader.proofs.then_ascii.Reads as then-ascii-reads
 
 returns : tie.Need-returns
 returns c =

@@ -1,7 +1,6 @@
 -- `c40_end` meets its contract: an unfinished shift is refused; else the text ends, or the meaning of the lone codeword is known.
 -- Assumes nothing.
-use mathlib.Core.Path.{_≡_, sym, ap, _∙_}
-use Prim.Native.Nat.{_+_}
+use mathlib.Core.Path.{_≡_, sym, _∙_}
 use mathlib.Core.Bool.{false}
 use native.Mathlib.Omega.{arith}
 use lib.ListN.{length}
@@ -12,13 +11,6 @@ use Rattle.symbol_reader.proofs.Nexts.{refuses, then-end}
 use borrow.Author.Needs.{needs}
 use Rattle.symbol_reader.proofs.c40_end.Statement.{statement}
 use Rattle.symbol_reader.proofs.c40_end.Tie as tie
-use Rattle.symbol_reader.proofs.c40_end.Reads as reads
-use Rattle.symbol_reader.proofs.c40_end.Lts as lts
-use Rattle.codeword.proofs.is_unfinished.Reads as is-unfinished-reads
-use Rattle.codeword.proofs.lone_of.Reads as lone-of-reads
-use Rattle.symbol_reader.proofs.put_char.Reads as put-char-reads
-use Rattle.symbol_reader.proofs.refuse.Reads as refuse-reads
-use Rattle.symbol_reader.proofs.then_end.Reads as then-end-reads
 
 is-unfinished-requires : tie.Need-is-unfinished-requires
 is-unfinished-requires c κs = search needs

@@ -1,7 +1,6 @@
 -- `c40_step` meets its contract: fewer than two codewords are `c40_end`; 254 hands the rest to ASCII mode; any other pair is put.
 -- Assumes nothing.
-use mathlib.Core.Path.{_≡_, sym, ap, _∙_}
-use Prim.Native.Nat.{_+_}
+use mathlib.Core.Path.{sym, _∙_}
 use native.Mathlib.Omega.{arith}
 use lib.ListN.{drop}
 use Rattle.codeword.specs.Reading.{inC40, read}
@@ -10,13 +9,6 @@ use Rattle.symbol_reader.proofs.Nexts.{refuses, then-c40}
 use borrow.Author.Needs.{needs}
 use Rattle.symbol_reader.proofs.c40_step.Statement.{statement}
 use Rattle.symbol_reader.proofs.c40_step.Tie as tie
-use Rattle.symbol_reader.proofs.c40_step.Reads as reads
-use Rattle.symbol_reader.proofs.c40_step.Lts as lts
-use Rattle.codeword.proofs.is_unfinished.Reads as is-unfinished-reads
-use Rattle.symbol_reader.proofs.c40_end.Reads as c40-end-reads
-use Rattle.symbol_reader.proofs.put_pair.Reads as put-pair-reads
-use Rattle.symbol_reader.proofs.refuse.Reads as refuse-reads
-use Rattle.symbol_reader.proofs.then_c40.Reads as then-c40-reads
 
 c40-end-requires : tie.Need-c40-end-requires
 c40-end-requires c κs = search needs

@@ -5,8 +5,6 @@ use Rattle.symbol_reader.proofs.After.{put-on, put-full}
 use borrow.Author.Needs.{needs}
 use Rattle.symbol_reader.proofs.put_char.Statement.{statement}
 use Rattle.symbol_reader.proofs.put_char.Tie as tie
-use Rattle.symbol_reader.proofs.put_char.Reads as reads
-use Rattle.symbol_reader.proofs.put_char.Lts as lts
 
 slice-write-text : tie.Need-slice-write-text
 slice-write-text c = search needs

@@ -10,10 +10,6 @@ use Rattle.symbol_reader.proofs.After.{after-refused, goes, stays, size
 use borrow.Author.Needs.{needs}
 use Rattle.symbol_reader.proofs.put_pair.Statement.{statement}
 use Rattle.symbol_reader.proofs.put_pair.Tie as tie
-use Rattle.symbol_reader.proofs.put_pair.Reads as reads
-use Rattle.symbol_reader.proofs.put_pair.Lts as lts
-use Rattle.codeword.proofs.pair_of.Reads as pair-of-reads
-use Rattle.symbol_reader.proofs.put_value.Reads as put-value-reads
 
 pair-of-requires : tie.Need-pair-of-requires
 pair-of-requires c κs = search needs

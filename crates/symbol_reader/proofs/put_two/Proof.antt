@@ -8,9 +8,6 @@ use Rattle.symbol_reader.proofs.After.{goes, stays, size}
 use borrow.Author.Needs.{needs}
 use Rattle.symbol_reader.proofs.put_two.Statement.{statement}
 use Rattle.symbol_reader.proofs.put_two.Tie as tie
-use Rattle.symbol_reader.proofs.put_two.Reads as reads
-use Rattle.symbol_reader.proofs.put_two.Lts as lts
-use Rattle.symbol_reader.proofs.put_char.Reads as put-char-reads
 
 put-char-requires : tie.Need-put-char-requires
 put-char-requires c κs = search needs

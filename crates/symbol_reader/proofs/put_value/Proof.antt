@@ -8,10 +8,6 @@ use Rattle.symbol_reader.proofs.After.{after-refused, value-is}
 use borrow.Author.Needs.{needs}
 use Rattle.symbol_reader.proofs.put_value.Statement.{statement}
 use Rattle.symbol_reader.proofs.put_value.Tie as tie
-use Rattle.symbol_reader.proofs.put_value.Reads as reads
-use Rattle.symbol_reader.proofs.put_value.Lts as lts
-use Rattle.codeword.proofs.value_of.Reads as value-of-reads
-use Rattle.symbol_reader.proofs.put_char.Reads as put-char-reads
 
 value-of-requires : tie.Need-value-of-requires
 value-of-requires c κs = search needs

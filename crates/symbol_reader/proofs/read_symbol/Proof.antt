@@ -1,14 +1,12 @@
 -- `read_symbol` meets its contract: the tests before the first codeword are those of `readSymbol`; then the readers answer into the buffer,
 -- which is copied to the text unless they refused.
 -- Assumes nothing.
-use mathlib.Core.Path.{_≡_, sym, ap, _∙_}
-use Prim.Native.Nat.{_≤_}
+use mathlib.Core.Path.{sym, ap, _∙_}
 use mathlib.Core.List.{[]}
 use native.Mathlib.Omega.{arith}
-use lib.ListN.{length, take, drop}
+use lib.ListN.{length}
 use lib.Seq.{length-take-le}
 use borrow.Author.Tests.{not-true, not-false}
-use Rattle.refusal.specs.Limits.{limit}
 use Rattle.codeword.specs.Reading.{readSymbol}
 use Rattle.codeword.proofs.Sizes.{capacity-most}
 use Rattle.symbol_reader.specs.Steps.{after}
@@ -16,11 +14,6 @@ use Rattle.symbol_reader.proofs.Whole.{is-no-capacity, is-too-short, is
 use borrow.Author.Needs.{needs}
 use Rattle.symbol_reader.proofs.read_symbol.Statement.{statement}
 use Rattle.symbol_reader.proofs.read_symbol.Tie as tie
-use Rattle.symbol_reader.proofs.read_symbol.Reads as reads
-use Rattle.symbol_reader.proofs.read_symbol.Lts as lts
-use Rattle.bytes.proofs.copy.Reads as copy-reads
-use Rattle.codeword.proofs.is_capacity.Reads as is-capacity-reads
-use Rattle.symbol_reader.proofs.read_ascii.Reads as read-ascii-reads
 
 is-capacity-requires : tie.Need-is-capacity-requires
 is-capacity-requires c κs = search needs

@@ -1,14 +1,11 @@
 -- `then_end` meets its contract: in each arm the answer of the `put` is known.
 -- Assumes nothing.
-use mathlib.Core.Path.{_≡_, sym, ap, _∙_}
+use mathlib.Core.Path.{sym, ap, _∙_}
 use Rattle.symbol_reader.specs.declared.Put.{Put}
 use Rattle.symbol_reader.specs.Steps.{endNext}
 use borrow.Author.Needs.{needs}
 use Rattle.symbol_reader.proofs.then_end.Statement.{statement}
 use Rattle.symbol_reader.proofs.then_end.Tie as tie
-use Rattle.symbol_reader.proofs.then_end.Reads as reads
-use Rattle.symbol_reader.proofs.then_end.Lts as lts
-use Rattle.symbol_reader.proofs.refuse.Reads as refuse-reads
 
 enum-known-put : tie.Need-enum-known-put
 enum-known-put c = search needs

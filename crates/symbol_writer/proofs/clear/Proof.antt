@@ -8,8 +8,6 @@ use Rattle.symbol_writer.proofs.Whole.{zeros-start, zeros-more, zeros-e
 use Rattle.symbol_writer.proofs.Output.{Front}
 use Rattle.symbol_writer.proofs.clear.Statement.{statement}
 use Rattle.symbol_writer.proofs.clear.Tie as tie
-use Rattle.symbol_writer.proofs.clear.Reads as reads
-use Rattle.symbol_writer.proofs.clear.Lts as lts
 
 abbrev Inv-loop : tie.InvT-loop
 Inv-loop work₀ i₀ work i = (i ≤ workRoom) × (Front (zeros workRoom) work₀ work (zeros (workRoom - i)) i)

@@ -8,8 +8,6 @@ use Rattle.symbol_writer.specs.Symbol.{firstAbove}
 use Rattle.symbol_writer.proofs.Whole.{above-here, above-later, above-none}
 use Rattle.symbol_writer.proofs.first_above.Statement.{statement}
 use Rattle.symbol_writer.proofs.first_above.Tie as tie
-use Rattle.symbol_writer.proofs.first_above.Reads as reads
-use Rattle.symbol_writer.proofs.first_above.Lts as lts
 
 abbrev Inv-loop : tie.InvT-loop
 Inv-loop text i₀ i = (i ≤ length text) × (firstAbove text ≡ i + firstAbove (drop i text))

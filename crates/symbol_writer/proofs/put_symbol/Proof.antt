@@ -4,11 +4,6 @@ use borrow.Author.Needs.{needs}
 use Rattle.symbol_writer.proofs.Whole.{symbol-put}
 use Rattle.symbol_writer.proofs.put_symbol.Statement.{statement}
 use Rattle.symbol_writer.proofs.put_symbol.Tie as tie
-use Rattle.symbol_writer.proofs.put_symbol.Reads as reads
-use Rattle.symbol_writer.proofs.put_symbol.Lts as lts
-use Rattle.symbol_writer.proofs.codewords.put_codewords.Reads as put-codewords-reads
-use Rattle.symbol_writer.proofs.codewords.put_pads.Reads as put-pads-reads
-use Rattle.symbol_writer.proofs.refill.Reads as refill-reads
 
 refill-requires : tie.Need-refill-requires
 refill-requires c κs = search needs

@@ -3,9 +3,6 @@
 use borrow.Author.Needs.{needs}
 use Rattle.symbol_writer.proofs.refill.Statement.{statement}
 use Rattle.symbol_writer.proofs.refill.Tie as tie
-use Rattle.symbol_writer.proofs.refill.Reads as reads
-use Rattle.symbol_writer.proofs.refill.Lts as lts
-use Rattle.symbol_writer.proofs.costs.fill.Reads as fill-reads
 
 returns : tie.Need-returns
 returns c = rw (c .if1 .taken) (c .before .before .before .pre .1)

@@ -7,11 +7,6 @@ use Rattle.symbol_writer.proofs.Whole.{fewest-is}
 use Rattle.symbol_writer.proofs.Rows.{filled-on}
 use Rattle.symbol_writer.proofs.size_for.Statement.{statement}
 use Rattle.symbol_writer.proofs.size_for.Tie as tie
-use Rattle.symbol_writer.proofs.size_for.Reads as reads
-use Rattle.symbol_writer.proofs.size_for.Lts as lts
-use Rattle.symbol_writer.proofs.costs.fill.Reads as fill-reads
-use Rattle.symbol_writer.proofs.costs.less.Reads as less-reads
-use Rattle.symbol_writer.proofs.sizes.choose_size.Reads as choose-size-reads
 
 fill-requires : tie.Need-fill-requires
 fill-requires c κs = search needs

@@ -15,13 +15,6 @@ use Rattle.symbol_writer.specs.declared.SymbolWritten.the-variants.{Refu
 use Rattle.symbol_writer.proofs.Whole.{chars-of, too-long, too-high, no-size, no-work, in-size, told-early, told-late}
 use Rattle.symbol_writer.proofs.write_by_costs.Statement.{statement}
 use Rattle.symbol_writer.proofs.write_by_costs.Tie as tie
-use Rattle.symbol_writer.proofs.write_by_costs.Reads as reads
-use Rattle.symbol_writer.proofs.write_by_costs.Lts as lts
-use Rattle.codeword.proofs.is_capacity.Reads as is-capacity-reads
-use Rattle.symbol_writer.proofs.clear.Reads as clear-reads
-use Rattle.symbol_writer.proofs.first_above.Reads as first-above-reads
-use Rattle.symbol_writer.proofs.refused.Reads as refused-reads
-use Rattle.symbol_writer.proofs.write_within.Reads as write-within-reads
 
 refused-requires : tie.Need-refused-requires
 refused-requires c κs = search needs

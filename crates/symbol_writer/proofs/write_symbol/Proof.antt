@@ -6,9 +6,6 @@ use Rattle.symbol_writer.proofs.Promise.{promised, left-as-promised}
 use borrow.Author.Needs.{needs}
 use Rattle.symbol_writer.proofs.write_symbol.Statement.{statement}
 use Rattle.symbol_writer.proofs.write_symbol.Tie as tie
-use Rattle.symbol_writer.proofs.write_symbol.Reads as reads
-use Rattle.symbol_writer.proofs.write_symbol.Lts as lts
-use Rattle.symbol_writer.proofs.write_by_costs.Reads as write-by-costs-reads
 
 write-by-costs-requires : tie.Need-write-by-costs-requires
 write-by-costs-requires c κs = search needs

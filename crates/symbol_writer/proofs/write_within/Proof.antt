@@ -8,11 +8,6 @@ use Rattle.symbol_writer.proofs.Whole.{none-fits, no-room, is-written}
 use Rattle.symbol_writer.proofs.Rows.{filled-self}
 use Rattle.symbol_writer.proofs.write_within.Statement.{statement}
 use Rattle.symbol_writer.proofs.write_within.Tie as tie
-use Rattle.symbol_writer.proofs.write_within.Reads as reads
-use Rattle.symbol_writer.proofs.write_within.Lts as lts
-use Rattle.symbol_writer.proofs.put_symbol.Reads as put-symbol-reads
-use Rattle.symbol_writer.proofs.refused.Reads as refused-reads
-use Rattle.symbol_writer.proofs.size_for.Reads as size-for-reads
 
 size-for-requires : tie.Need-size-for-requires
 size-for-requires c κs = search needs

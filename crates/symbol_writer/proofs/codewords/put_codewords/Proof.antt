@@ -9,10 +9,6 @@ use Rattle.symbol_writer.specs.declared.codewords.After.{After}
 use Rattle.symbol_writer.proofs.Output.{Writing, writing-start, Onward, written-all, room-for, onward}
 use Rattle.symbol_writer.proofs.codewords.put_codewords.Statement.{statement}
 use Rattle.symbol_writer.proofs.codewords.put_codewords.Tie as tie
-use Rattle.symbol_writer.proofs.codewords.put_codewords.Reads as reads
-use Rattle.symbol_writer.proofs.codewords.put_codewords.Lts as lts
-use Rattle.symbol_writer.proofs.codewords.put_move.Reads as put-move-reads
-use Rattle.symbol_writer.proofs.moves.next_move.Reads as next-move-reads
 
 abbrev Inv-loop : tie.InvT-loop
 Inv-loop text n padded work symbol₀ mode₀ i₀ done₀ symbol mode i done = Writing padded text n symbol₀ symbol mode i done

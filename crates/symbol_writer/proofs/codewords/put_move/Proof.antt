@@ -9,8 +9,6 @@ use Rattle.symbol_writer.specs.Codewords.{RoomFor, afterMove, putMove}
 use Rattle.symbol_writer.specs.declared.moves.Move.{Move}
 use Rattle.symbol_writer.proofs.codewords.put_move.Statement.{statement}
 use Rattle.symbol_writer.proofs.codewords.put_move.Tie as tie
-use Rattle.symbol_writer.proofs.codewords.put_move.Reads as reads
-use Rattle.symbol_writer.proofs.codewords.put_move.Lts as lts
 
 enum-known-m : tie.Need-enum-known-m
 enum-known-m c = search needs

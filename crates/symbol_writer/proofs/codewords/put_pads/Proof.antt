@@ -8,9 +8,6 @@ use Rattle.optimum.specs.Write.{padding}
 use Rattle.symbol_writer.proofs.Output.{Front, pads-start, pads-more, pads-end}
 use Rattle.symbol_writer.proofs.codewords.put_pads.Statement.{statement}
 use Rattle.symbol_writer.proofs.codewords.put_pads.Tie as tie
-use Rattle.symbol_writer.proofs.codewords.put_pads.Reads as reads
-use Rattle.symbol_writer.proofs.codewords.put_pads.Lts as lts
-use Rattle.codeword.proofs.pad_at.Reads as pad-at-reads
 
 abbrev Inv-loop : tie.InvT-loop
 Inv-loop symbol₀ first capacity i₀ symbol i =

@@ -4,11 +4,6 @@ use mathlib.Core.Path.{_∙_}
 use borrow.Author.Needs.{needs}
 use Rattle.symbol_writer.proofs.costs.by_chars.Statement.{statement}
 use Rattle.symbol_writer.proofs.costs.by_chars.Tie as tie
-use Rattle.symbol_writer.proofs.costs.by_chars.Reads as reads
-use Rattle.symbol_writer.proofs.costs.by_chars.Lts as lts
-use Rattle.symbol_writer.proofs.costs.either.Reads as either-reads
-use Rattle.symbol_writer.proofs.costs.lesser.Reads as lesser-reads
-use Rattle.symbol_writer.proofs.costs.one_more.Reads as one-more-reads
 
 one-more-requires : tie.Need-one-more-requires
 one-more-requires c κs = search needs

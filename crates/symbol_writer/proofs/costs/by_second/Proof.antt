@@ -4,10 +4,6 @@ use mathlib.Core.Path.{_∙_}
 use borrow.Author.Needs.{needs}
 use Rattle.symbol_writer.proofs.costs.by_second.Statement.{statement}
 use Rattle.symbol_writer.proofs.costs.by_second.Tie as tie
-use Rattle.symbol_writer.proofs.costs.by_second.Reads as reads
-use Rattle.symbol_writer.proofs.costs.by_second.Lts as lts
-use Rattle.symbol_writer.proofs.costs.either.Reads as either-reads
-use Rattle.symbol_writer.proofs.costs.two_more.Reads as two-more-reads
 
 two-more-requires : tie.Need-two-more-requires
 two-more-requires c κs = search needs

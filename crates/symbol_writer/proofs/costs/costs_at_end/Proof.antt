@@ -4,8 +4,6 @@ use borrow.Author.Needs.{needs}
 use Rattle.optimum.specs.Cost.{base}
 use Rattle.symbol_writer.proofs.costs.costs_at_end.Statement.{statement}
 use Rattle.symbol_writer.proofs.costs.costs_at_end.Tie as tie
-use Rattle.symbol_writer.proofs.costs.costs_at_end.Reads as reads
-use Rattle.symbol_writer.proofs.costs.costs_at_end.Lts as lts
 
 add-t6 : tie.Need-add-t6
 add-t6 c = search needs

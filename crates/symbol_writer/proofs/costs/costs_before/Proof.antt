@@ -4,15 +4,6 @@ use borrow.Author.Needs.{needs}
 use Rattle.symbol_writer.proofs.Rows.{costs-is}
 use Rattle.symbol_writer.proofs.costs.costs_before.Statement.{statement}
 use Rattle.symbol_writer.proofs.costs.costs_before.Tie as tie
-use Rattle.symbol_writer.proofs.costs.costs_before.Reads as reads
-use Rattle.symbol_writer.proofs.costs.costs_before.Lts as lts
-use Rattle.symbol_writer.proofs.costs.by_chars.Reads as by-chars-reads
-use Rattle.symbol_writer.proofs.costs.by_second.Reads as by-second-reads
-use Rattle.symbol_writer.proofs.costs.by_third.Reads as by-third-reads
-use Rattle.symbol_writer.proofs.costs.by_values.Reads as by-values-reads
-use Rattle.symbol_writer.proofs.costs.either.Reads as either-reads
-use Rattle.symbol_writer.proofs.costs.is_digit.Reads as is-digit-reads
-use Rattle.symbol_writer.proofs.costs.or_change.Reads as or-change-reads
 
 is-digit-requires : tie.Need-is-digit-requires
 is-digit-requires c κs = search needs

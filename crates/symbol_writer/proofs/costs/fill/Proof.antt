@@ -10,11 +10,6 @@ use Rattle.symbol_writer.specs.Rows.{costsOf, Filled}
 use Rattle.symbol_writer.proofs.Rows.{low-of, costs-again, filled-more, filled-last, filled-self, filled-on}
 use Rattle.symbol_writer.proofs.costs.fill.Statement.{statement}
 use Rattle.symbol_writer.proofs.costs.fill.Tie as tie
-use Rattle.symbol_writer.proofs.costs.fill.Reads as reads
-use Rattle.symbol_writer.proofs.costs.fill.Lts as lts
-use Rattle.symbol_writer.proofs.costs.costs_at_end.Reads as costs-at-end-reads
-use Rattle.symbol_writer.proofs.costs.costs_before.Reads as costs-before-reads
-use Rattle.symbol_writer.proofs.costs.put_row.Reads as put-row-reads
 
 abbrev Inv-loop : tie.InvT-loop
 Inv-loop text padded work₀ i₀ k₀ work i k =

@@ -5,8 +5,6 @@ use native.Mathlib.Omega.{arith}
 use borrow.Author.Needs.{needs}
 use Rattle.symbol_writer.proofs.costs.fits.Statement.{statement}
 use Rattle.symbol_writer.proofs.costs.fits.Tie as tie
-use Rattle.symbol_writer.proofs.costs.fits.Reads as reads
-use Rattle.symbol_writer.proofs.costs.fits.Lts as lts
 
 mul-cost : tie.Need-mul-cost
 mul-cost c = search needs

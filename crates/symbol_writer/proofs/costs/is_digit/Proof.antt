@@ -4,8 +4,6 @@ use borrow.Author.Tests.{le-ltb, lt-ltb}
 use Rattle.optimum.specs.Cost.{digit}
 use Rattle.symbol_writer.proofs.costs.is_digit.Statement.{statement}
 use Rattle.symbol_writer.proofs.costs.is_digit.Tie as tie
-use Rattle.symbol_writer.proofs.costs.is_digit.Reads as reads
-use Rattle.symbol_writer.proofs.costs.is_digit.Lts as lts
 
 returns : tie.Need-returns
 unfolding digit

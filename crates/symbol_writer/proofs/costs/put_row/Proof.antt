@@ -6,8 +6,6 @@ use borrow.Author.Needs.{needs}
 use Rattle.symbol_writer.proofs.Rows.{put-is}
 use Rattle.symbol_writer.proofs.costs.put_row.Statement.{statement}
 use Rattle.symbol_writer.proofs.costs.put_row.Tie as tie
-use Rattle.symbol_writer.proofs.costs.put_row.Reads as reads
-use Rattle.symbol_writer.proofs.costs.put_row.Lts as lts
 
 mul-work : tie.Need-mul-work
 mul-work c = search needs

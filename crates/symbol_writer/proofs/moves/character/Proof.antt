@@ -7,11 +7,6 @@ use borrow.Author.Needs.{needs}
 use Rattle.symbol_writer.proofs.Greedy.{letter-none, letter-last, letter-two, letter-one, both-digits}
 use Rattle.symbol_writer.proofs.moves.character.Statement.{statement}
 use Rattle.symbol_writer.proofs.moves.character.Tie as tie
-use Rattle.symbol_writer.proofs.moves.character.Reads as reads
-use Rattle.symbol_writer.proofs.moves.character.Lts as lts
-use Rattle.symbol_writer.proofs.costs.fits.Reads as fits-reads
-use Rattle.symbol_writer.proofs.moves.digits_fit.Reads as digits-fit-reads
-use Rattle.symbol_writer.proofs.moves.two_digits.Reads as two-digits-reads
 
 returns : tie.Need-returns
 returns c =

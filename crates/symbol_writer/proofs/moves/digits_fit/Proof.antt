@@ -6,9 +6,6 @@ use Rattle.optimum.specs.Cost.{digit}
 use Rattle.symbol_writer.proofs.Greedy.{first-fails, second-fails, both-hold}
 use Rattle.symbol_writer.proofs.moves.digits_fit.Statement.{statement}
 use Rattle.symbol_writer.proofs.moves.digits_fit.Tie as tie
-use Rattle.symbol_writer.proofs.moves.digits_fit.Reads as reads
-use Rattle.symbol_writer.proofs.moves.digits_fit.Lts as lts
-use Rattle.symbol_writer.proofs.costs.is_digit.Reads as is-digit-reads
 
 is-digit-requires : tie.Need-is-digit-requires
 is-digit-requires c κs = search needs

@@ -6,8 +6,6 @@ use Rattle.codeword.specs.declared.Set.{Set}
 use Rattle.symbol_writer.specs.Moves.{basicValue}
 use Rattle.symbol_writer.proofs.moves.in_basic.Statement.{statement}
 use Rattle.symbol_writer.proofs.moves.in_basic.Tie as tie
-use Rattle.symbol_writer.proofs.moves.in_basic.Reads as reads
-use Rattle.symbol_writer.proofs.moves.in_basic.Lts as lts
 
 enum-told : tie.Need-enum-told
 enum-told c = search needs

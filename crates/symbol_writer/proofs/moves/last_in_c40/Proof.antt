@@ -7,8 +7,6 @@ use borrow.Author.Needs.{needs}
 use Rattle.symbol_writer.proofs.Greedy.{last-padded, last-done, last-character}
 use Rattle.symbol_writer.proofs.moves.last_in_c40.Statement.{statement}
 use Rattle.symbol_writer.proofs.moves.last_in_c40.Tie as tie
-use Rattle.symbol_writer.proofs.moves.last_in_c40.Reads as reads
-use Rattle.symbol_writer.proofs.moves.last_in_c40.Lts as lts
 
 returns : tie.Need-returns
 returns c = record { is = rw (c .if1 .taken) (last-padded (c .before .args .set) (c .before .args .text .now) (c .before .args .i)); low = omega arith }

@@ -5,10 +5,6 @@ use borrow.Author.Needs.{needs}
 use Rattle.symbol_writer.proofs.Greedy.{latched, not-latched}
 use Rattle.symbol_writer.proofs.moves.move_in_ascii.Statement.{statement}
 use Rattle.symbol_writer.proofs.moves.move_in_ascii.Tie as tie
-use Rattle.symbol_writer.proofs.moves.move_in_ascii.Reads as reads
-use Rattle.symbol_writer.proofs.moves.move_in_ascii.Lts as lts
-use Rattle.symbol_writer.proofs.costs.fits.Reads as fits-reads
-use Rattle.symbol_writer.proofs.moves.character.Reads as character-reads
 
 fits-requires : tie.Need-fits-requires
 fits-requires c κs = search needs

@@ -8,11 +8,6 @@ use borrow.Author.Needs.{needs}
 use Rattle.symbol_writer.proofs.Greedy.{waiting, unlatched, not-unlatched}
 use Rattle.symbol_writer.proofs.moves.move_in_c40.Statement.{statement}
 use Rattle.symbol_writer.proofs.moves.move_in_c40.Tie as tie
-use Rattle.symbol_writer.proofs.moves.move_in_c40.Reads as reads
-use Rattle.symbol_writer.proofs.moves.move_in_c40.Lts as lts
-use Rattle.codeword.proofs.is_unfinished.Reads as is-unfinished-reads
-use Rattle.symbol_writer.proofs.costs.fits.Reads as fits-reads
-use Rattle.symbol_writer.proofs.moves.pair_of_codewords.Reads as pair-of-codewords-reads
 
 is-unfinished-requires : tie.Need-is-unfinished-requires
 is-unfinished-requires c κs = search needs

@@ -8,11 +8,6 @@ use borrow.Author.Needs.{needs}
 use Rattle.symbol_writer.proofs.Greedy.{low-more, as-told}
 use Rattle.symbol_writer.proofs.moves.next_move.Statement.{statement}
 use Rattle.symbol_writer.proofs.moves.next_move.Tie as tie
-use Rattle.symbol_writer.proofs.moves.next_move.Reads as reads
-use Rattle.symbol_writer.proofs.moves.next_move.Lts as lts
-use Rattle.symbol_writer.proofs.moves.last_in_c40.Reads as last-in-c40-reads
-use Rattle.symbol_writer.proofs.moves.move_in_ascii.Reads as move-in-ascii-reads
-use Rattle.symbol_writer.proofs.moves.move_in_c40.Reads as move-in-c40-reads
 
 enum-told : tie.Need-enum-told
 enum-told c = search needs

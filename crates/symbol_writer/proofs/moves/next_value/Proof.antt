@@ -7,10 +7,6 @@ use Rattle.codeword.specs.Numbered.{isBasic}
 use Rattle.symbol_writer.proofs.Greedy.{next-at-end, next-own, next-basic}
 use Rattle.symbol_writer.proofs.moves.next_value.Statement.{statement}
 use Rattle.symbol_writer.proofs.moves.next_value.Tie as tie
-use Rattle.symbol_writer.proofs.moves.next_value.Reads as reads
-use Rattle.symbol_writer.proofs.moves.next_value.Lts as lts
-use Rattle.codeword.proofs.place_of.Reads as place-of-reads
-use Rattle.symbol_writer.proofs.moves.in_basic.Reads as in-basic-reads
 
 returns : tie.Need-returns
 returns c = next-at-end _ _ _ (c .if1 .taken)

@@ -11,11 +11,6 @@ use Rattle.symbol_writer.specs.declared.moves.NextValue.{NextValue}
 use Rattle.symbol_writer.proofs.Greedy.{pair-none, pair-one, pair-two, pair-three}
 use Rattle.symbol_writer.proofs.moves.pair_of_codewords.Statement.{statement}
 use Rattle.symbol_writer.proofs.moves.pair_of_codewords.Tie as tie
-use Rattle.symbol_writer.proofs.moves.pair_of_codewords.Reads as reads
-use Rattle.symbol_writer.proofs.moves.pair_of_codewords.Lts as lts
-use Rattle.symbol_writer.proofs.moves.next_value.Reads as next-value-reads
-use Rattle.symbol_writer.proofs.moves.packed.Reads as packed-reads
-use Rattle.symbol_writer.proofs.moves.third_value.Reads as third-value-reads
 
 next-value-requires : tie.Need-next-value-requires
 next-value-requires c κs = (c .before .before .pre .place, c .before .before .pre .short, c .before .before .pre .chars)

@@ -5,12 +5,6 @@ use borrow.Author.Needs.{needs}
 use Rattle.symbol_writer.proofs.Greedy.{third-at-end, third-taken, third-filler, column-low}
 use Rattle.symbol_writer.proofs.moves.third_or_filler.Statement.{statement}
 use Rattle.symbol_writer.proofs.moves.third_or_filler.Tie as tie
-use Rattle.symbol_writer.proofs.moves.third_or_filler.Reads as reads
-use Rattle.symbol_writer.proofs.moves.third_or_filler.Lts as lts
-use Rattle.codeword.proofs.place_of.Reads as place-of-reads
-use Rattle.symbol_writer.proofs.costs.fits.Reads as fits-reads
-use Rattle.symbol_writer.proofs.moves.column_behind.Reads as column-behind-reads
-use Rattle.symbol_writer.proofs.moves.in_basic.Reads as in-basic-reads
 
 returns : tie.Need-returns
 returns c = third-at-end _ _ _ _ (c .if1 .taken)

@@ -6,10 +6,6 @@ use Rattle.codeword.specs.Numbered.{isBasic}
 use Rattle.symbol_writer.proofs.Greedy.{third-shifted}
 use Rattle.symbol_writer.proofs.moves.third_value.Statement.{statement}
 use Rattle.symbol_writer.proofs.moves.third_value.Tie as tie
-use Rattle.symbol_writer.proofs.moves.third_value.Reads as reads
-use Rattle.symbol_writer.proofs.moves.third_value.Lts as lts
-use Rattle.symbol_writer.proofs.moves.next_value.Reads as next-value-reads
-use Rattle.symbol_writer.proofs.moves.third_or_filler.Reads as third-or-filler-reads
 
 enum-told : tie.Need-enum-told
 enum-told c = search needs

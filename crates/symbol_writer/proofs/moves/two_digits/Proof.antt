@@ -5,8 +5,6 @@ use borrow.Author.Needs.{needs}
 use Rattle.symbol_writer.proofs.Greedy.{digit-range}
 use Rattle.symbol_writer.proofs.moves.two_digits.Statement.{statement}
 use Rattle.symbol_writer.proofs.moves.two_digits.Tie as tie
-use Rattle.symbol_writer.proofs.moves.two_digits.Reads as reads
-use Rattle.symbol_writer.proofs.moves.two_digits.Lts as lts
 
 sub-result : tie.Need-sub-result
 sub-result c = omega (arith, digit-range (c .args .c) (c .pre .0), digit-range (c .args .d) (c .pre .1))

@@ -4,8 +4,6 @@ use borrow.Author.Needs.{needs}
 use Rattle.symbol_writer.proofs.Choice.{even-is, odd-is}
 use Rattle.symbol_writer.proofs.sizes.full_fits.Statement.{statement}
 use Rattle.symbol_writer.proofs.sizes.full_fits.Tie as tie
-use Rattle.symbol_writer.proofs.sizes.full_fits.Reads as reads
-use Rattle.symbol_writer.proofs.sizes.full_fits.Lts as lts
 
 cast-even : tie.Need-cast-even
 cast-even c = search needs
