@@ -1,7 +1,7 @@
 // Reads the data codewords of a symbol into text. The ASCII-mode and the C40-mode reader hand the rest of the codewords to each other.
 ghost use mathlib.Core.Path.{_≡_};
 ghost use Prim.Native.Nat.{_+_, _-_, _≤_, _<_};
-ghost use lib.ListN.{length, take};
+ghost use lib.ListN.{length};
 ghost use Rattle.refusal.specs.Limits.{limit};
 ghost use Rattle.codeword.specs.Meanings.{pair, value};
 ghost use Rattle.codeword.specs.Reading.{give, put, onPair, inAscii, inC40, readSymbol};
