@@ -1,7 +1,7 @@
 // The data codewords of a symbol: what each means in its mode, and the sizes that a symbol has.
 ghost use mathlib.Core.Path.{_≡_};
 ghost use Rattle.codeword.specs.Meanings.{ascii, lone, pair, value, unfinished};
-ghost use Rattle.codeword.specs.Sizes.{isCapacity, capacities};
+ghost use Rattle.codeword.specs.Sizes.{isCapacity, capacities, most-codewords};
 ghost use Rattle.codeword.specs.Characters.{setOf, numberOf};
 ghost use Rattle.codeword.specs.Numbered.{setNumbered, isBasic};
 ghost use Rattle.codeword.specs.Pads.{padAt};
@@ -381,7 +381,7 @@ pub fn is_basic(c: u8) -> bool
 
 // Padding starts with 129. A later pad at place p (the first codeword is place 1) is 129 + ((149p mod 253) + 1), less 254 if above 254.
 pub fn pad_at(first: usize, i: usize) -> u8
-    requires { ⌜ i < 1558 ⌝ }
+    requires { ⌜ i < most-codewords ⌝ }
     ensures { λ r. ⌜ r ≡ padAt first i ⌝ }
 {
     if i == first {

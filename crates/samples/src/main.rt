@@ -81,7 +81,7 @@ fn show_read(answer: SymbolRead, text: &[u8]) {
 }
 
 fn read(codewords: &[u8]) {
-    let mut text = [0u8; 1000];
+    let mut text = [0u8; refusal::LIMIT];
     let answer = symbol_reader::read_symbol(codewords, &mut text);
     show_read(answer, &text);
 }

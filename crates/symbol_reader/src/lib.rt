@@ -3,6 +3,7 @@ ghost use mathlib.Core.Path.{_≡_};
 ghost use Prim.Native.Nat.{_+_, _-_, _≤_, _<_};
 ghost use lib.ListN.{length};
 ghost use Rattle.refusal.specs.Limits.{limit};
+ghost use Rattle.codeword.specs.Sizes.{most-codewords};
 ghost use Rattle.codeword.specs.Meanings.{pair, value};
 ghost use Rattle.codeword.specs.Reading.{give, put, onPair, inAscii, inC40, readSymbol};
 ghost use Rattle.codeword.specs.declared.Set.the-variants.{Basic};
@@ -120,7 +121,7 @@ fn then_c40(put: Put, place: usize) -> Next
 }
 
 fn then_end(put: Put, place: usize) -> Next
-    requires { ⌜ place < 1558 ⌝ }
+    requires { ⌜ place < most-codewords ⌝ }
     ensures { λ r. ⌜ r ≡ endNext put place ⌝ }
 {
     match put {
@@ -131,7 +132,7 @@ fn then_end(put: Put, place: usize) -> Next
 
 // The next codeword in ASCII mode, which stands at `place`, with n characters in the text.
 fn ascii_step(codewords: &[u8], place: usize, text: &mut [u8], n: usize) -> Next
-    requires { ⌜ (limit ≤ length (now text)) × (n ≤ limit) × (place + length (now codewords) ≤ 1558) ⌝ }
+    requires { ⌜ (limit ≤ length (now text)) × (n ≤ limit) × (place + length (now codewords) ≤ most-codewords) ⌝ }
     ensures says { λ r. ⌜ nextSays 1 (now (codewords .entry)) place r (now (text .exit)) ≡ reading (now (codewords .entry)) inAscii place n (now (text .entry)) ⌝ }
     ensures fits { λ r. ⌜ NextFits 1 (length (now (codewords .entry))) r ⌝ }
 {
@@ -150,7 +151,7 @@ fn ascii_step(codewords: &[u8], place: usize, text: &mut [u8], n: usize) -> Next
 
 // C40 mode with one codeword left, or none: an unfinished shift is refused before the codeword is looked at.
 fn c40_end(codewords: &[u8], place: usize, text: &mut [u8], n: usize, set: Set) -> Next
-    requires { ⌜ (limit ≤ length (now text)) × (n ≤ limit) × (place + length (now codewords) ≤ 1558) ⌝ }
+    requires { ⌜ (limit ≤ length (now text)) × (n ≤ limit) × (place + length (now codewords) ≤ most-codewords) ⌝ }
     requires { ⌜ length (now codewords) < 2 ⌝ }
     ensures says { λ r. ⌜ nextSays 2 (now (codewords .entry)) place r (now (text .exit)) ≡ reading (now (codewords .entry)) (inC40 set) place n (now (text .entry)) ⌝ }
     ensures fits { λ r. ⌜ NextFits 2 (length (now (codewords .entry))) r ⌝ }
@@ -171,7 +172,7 @@ fn c40_end(codewords: &[u8], place: usize, text: &mut [u8], n: usize, set: Set) 
 
 // The next codewords in C40 mode, the first at `place`, with n characters in the text and the shift `set` waiting.
 fn c40_step(codewords: &[u8], place: usize, text: &mut [u8], n: usize, set: Set) -> Next
-    requires { ⌜ (limit ≤ length (now text)) × (n ≤ limit) × (place + length (now codewords) ≤ 1558) ⌝ }
+    requires { ⌜ (limit ≤ length (now text)) × (n ≤ limit) × (place + length (now codewords) ≤ most-codewords) ⌝ }
     ensures says { λ r. ⌜ nextSays 2 (now (codewords .entry)) place r (now (text .exit)) ≡ reading (now (codewords .entry)) (inC40 set) place n (now (text .entry)) ⌝ }
     ensures fits { λ r. ⌜ NextFits 2 (length (now (codewords .entry))) r ⌝ }
 {
@@ -191,7 +192,7 @@ fn c40_step(codewords: &[u8], place: usize, text: &mut [u8], n: usize, set: Set)
 // The codewords from one on that stands in ASCII mode at `place`, with n characters in the text.
 fn read_ascii(codewords: &[u8], place: usize, text: &mut [u8], n: usize) -> SymbolRead
     requires { ⌜ (limit ≤ length (now text)) × (n ≤ limit) ⌝ }
-    requires { ⌜ place + length (now codewords) ≤ 1558 ⌝ }
+    requires { ⌜ place + length (now codewords) ≤ most-codewords ⌝ }
     ensures says { λ r. ⌜ says r (now (text .exit)) ≡ reading (now (codewords .entry)) inAscii place n (now (text .entry)) ⌝ }
     ensures size { λ r. ⌜ lengthOf r ≤ limit ⌝ }
 {
@@ -219,7 +220,7 @@ fn read_ascii(codewords: &[u8], place: usize, text: &mut [u8], n: usize) -> Symb
 // The codewords from one on that stands in C40 mode at `place`, with n characters in the text and the shift `set` waiting.
 fn read_c40(codewords: &[u8], place: usize, text: &mut [u8], n: usize, set: Set) -> SymbolRead
     requires { ⌜ (limit ≤ length (now text)) × (n ≤ limit) ⌝ }
-    requires { ⌜ place + length (now codewords) ≤ 1558 ⌝ }
+    requires { ⌜ place + length (now codewords) ≤ most-codewords ⌝ }
     ensures says { λ r. ⌜ says r (now (text .exit)) ≡ reading (now (codewords .entry)) (inC40 set) place n (now (text .entry)) ⌝ }
     ensures size { λ r. ⌜ lengthOf r ≤ limit ⌝ }
 {
@@ -263,7 +264,7 @@ pub fn read_symbol(codewords: &[u8], text: &mut [u8]) -> SymbolRead
             place: 0,
         });
     }
-    let mut buffer = [0u8; 1000];
+    let mut buffer = [0u8; refusal::LIMIT];
     let answer = read_ascii(codewords, 0, &mut buffer, 0);
     let SymbolRead::Text(n, _) = answer else {
         return answer;

@@ -11,7 +11,7 @@ use lib.Dec.{T, leb, leb→le}
 use lib.ListN.{length, drop, getD}
 use lib.Seq.{drop-cons}
 use borrow.Author.Tests.{lt-ltb, le-ltb}
-use Rattle.codeword.specs.Sizes.{capacities}
+use Rattle.codeword.specs.Sizes.{capacities, most-codewords}
 use Rattle.refusal.proofs.Tests.{below, at-below}
 use Rattle.optimum.specs.Cost.{asc, cost}
 use Rattle.optimum.specs.Write.{odd, Choice, at, nothing, choose, fewest, fits}
@@ -19,12 +19,12 @@ use Rattle.symbol_writer.specs.declared.costs.Least.{Least}
 use Rattle.symbol_writer.specs.Rows.{leastOf, leastAt}
 use Rattle.symbol_writer.proofs.Rows.{parity}
 
-all-low : T (below 24 (λ k. leb (getD capacities k 0) 1558))
+all-low : T (below 24 (λ k. leb (getD capacities k 0) most-codewords))
 unfolding capacities
 all-low = tt
 
-pub capacity-low : (k : ℕ) → k < 24 → getD capacities k 0 ≤ 1558
-capacity-low k h = leb→le (getD capacities k 0) 1558 (at-below 24 (λ k. leb (getD capacities k 0) 1558) all-low k h)
+pub capacity-low : (k : ℕ) → k < 24 → getD capacities k 0 ≤ most-codewords
+capacity-low k h = leb→le (getD capacities k 0) most-codewords (at-below 24 (λ k. leb (getD capacities k 0) most-codewords) all-low k h)
 
 pub even-is : (n : ℕ) → n % 2 ≡ 0 → odd n ≡ false
 even-is n e = ⊎-elim (λ z. z .0) (λ z. absurd (omega (arith, z .1))) (parity n)

@@ -44,23 +44,23 @@ module _ (c : ℕ) (k : Costs) (d b : Bool) (hd : d ≡ digit c) (hb : b ≡ isB
   form : (x y : ℕ) → forms (setOf c) x y ≡ pick b x y
   form x y = forms-pick (setOf c) x y ∙ ap (λ z. pick z x y) (sym hb)
 
-  pub by-chars-is : (a : Least) → Both a (min (suc (k .ascii .odd)) (pick d (suc (k .digit .odd)) 8192)) (min (suc (k .ascii .even)) (pick d (suc (k .digit .even)) 8192)) → Both a (chars c (kOf k) false) (chars c (kOf k) true)
+  pub by-chars-is : (a : Least) → Both a (min (suc (k .ascii .odd)) (pick d (suc (k .digit .odd)) inf)) (min (suc (k .ascii .even)) (pick d (suc (k .digit .even)) inf)) → Both a (chars c (kOf k) false) (chars c (kOf k) true)
   unfolding chars
   by-chars-is a p = (rw (← hd) (p .0), rw (← hd) (p .1))
 
-  pub by-values-is : (a : Least) → Both a (min (suc 8192) (pick b (k .one .even) (k .two .even))) (min (suc (k .end)) (pick b (k .one .odd) (k .two .odd))) → Both a (pairs c (kOf k) false) (pairs c (kOf k) true)
+  pub by-values-is : (a : Least) → Both a (min (suc inf) (pick b (k .one .even) (k .two .even))) (min (suc (k .end)) (pick b (k .one .odd) (k .two .odd))) → Both a (pairs c (kOf k) false) (pairs c (kOf k) true)
   unfolding pairs
   by-values-is a p = (rw (form (k .one .even) (k .two .even)) (p .0), rw (form (k .one .odd) (k .two .odd)) (p .1))
 
   pub costs-is : (m v ascii digits none one two : Least)
-      → Both m (min (suc (k .ascii .odd)) (pick d (suc (k .digit .odd)) 8192)) (min (suc (k .ascii .even)) (pick d (suc (k .digit .even)) 8192))
-      → Both v (min (suc 8192) (pick b (k .one .even) (k .two .even))) (min (suc (k .end)) (pick b (k .one .odd) (k .two .odd)))
+      → Both m (min (suc (k .ascii .odd)) (pick d (suc (k .digit .odd)) inf)) (min (suc (k .ascii .even)) (pick d (suc (k .digit .even)) inf))
+      → Both v (min (suc inf) (pick b (k .one .even) (k .two .even))) (min (suc (k .end)) (pick b (k .one .odd) (k .two .odd)))
       → Both ascii (min (m .even) (suc (v .odd))) (min (m .odd) (suc (v .even)))
       → Both none (min (v .even) (suc (m .odd))) (min (v .odd) (suc (m .even)))
       → Both one (pick b (k .two .even) (2 + k .none .even)) (pick b (k .two .odd) (2 + k .none .odd))
-      → Both two (2 + min (min (suc (ascii .odd)) (suc 8192)) (pick b (k .none .even) (k .one .even))) (2 + min (min (suc (ascii .even)) (suc (k .end))) (pick b (k .none .odd) (k .one .odd)))
-      → Both digits (pick d (k .ascii .even) 8192) (pick d (k .ascii .odd) 8192)
-      → _≡_ {A = Costs} (record { ascii = ascii; digit = digits; none = none; one = one; two = two; end = 8192 }) (costsOf (before c (kOf k)))
+      → Both two (2 + min (min (suc (ascii .odd)) (suc inf)) (pick b (k .none .even) (k .one .even))) (2 + min (min (suc (ascii .even)) (suc (k .end))) (pick b (k .none .odd) (k .one .odd)))
+      → Both digits (pick d (k .ascii .even) inf) (pick d (k .ascii .odd) inf)
+      → _≡_ {A = Costs} (record { ascii = ascii; digit = digits; none = none; one = one; two = two; end = inf }) (costsOf (before c (kOf k)))
   unfolding before
   costs-is m v ascii digits none one two pm pv pa pn po pt pd =
       λ i. record {
@@ -69,7 +69,7 @@ module _ (c : ℕ) (k : Costs) (d b : Bool) (hd : d ≡ digit c) (hb : b ≡ isB
         none = least-is none (before c (kOf k) d0) n₀ n₁ i;
         one = least-is one (before c (kOf k) d1) (rw (form (k .two .even) (2 + k .none .even)) (po .0)) (rw (form (k .two .odd) (2 + k .none .odd)) (po .1)) i;
         two = least-is two (before c (kOf k) d2) (rw (form (k .none .even) (k .one .even), ← a₁) (pt .0)) (rw (form (k .none .odd) (k .one .odd), ← a₀) (pt .1)) i;
-        end = 8192;
+        end = inf;
       }
     where
       m₀ : m .even ≡ chars c (kOf k) false
@@ -185,12 +185,12 @@ low-of b t k h e =
     })
 
 -- ONE ROW MORE
-fin-odd : (b : Bool) (t : List ℕ) → cost b t fin true ≡ 8192
+fin-odd : (b : Bool) (t : List ℕ) → cost b t fin true ≡ inf
 unfolding cost base before
 fin-odd b [] = refl
 fin-odd b (c ∷ t) = refl
 
-keep : (c : ℕ) (k : State → Bool → ℕ) → k fin true ≡ 8192 → costsOf (before c (kOf (costsOf k))) ≡ costsOf (before c k)
+keep : (c : ℕ) (k : State → Bool → ℕ) → k fin true ≡ inf → costsOf (before c (kOf (costsOf k))) ≡ costsOf (before c k)
 unfolding before chars pairs
 keep c k h = rw h
 

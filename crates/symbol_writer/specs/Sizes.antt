@@ -3,6 +3,7 @@ use Prim.Native.Nat.{ℕ, _≤_}
 use mathlib.Core.Bool.{false}
 use mathlib.Core.List.{List}
 use mathlib.Core.Path.{_≡_}
+use Rattle.codeword.specs.Sizes.{most-codewords}
 use Rattle.codeword.specs.Sizes.{capacities}
 use Rattle.optimum.specs.Cost.{asc, cost}
 use Rattle.optimum.specs.Write.{Choice, at, nothing, choose, fewest}
@@ -16,7 +17,7 @@ choiceOf (At c n b) = at c n b
 choiceOf NoneFits = nothing
 
 abbrev pub SizeLow : Size → Type 0
-SizeLow (At c n b) = (n ≤ c) × (c ≤ 1558)
+SizeLow (At c n b) = (n ≤ c) × (c ≤ most-codewords)
 SizeLow NoneFits = Unit {0}
 
 -- the choice for every text of these costs

@@ -6,6 +6,7 @@ ghost use mathlib.Core.Path.{_≡_};
 ghost use mathlib.Core.List.{_++_};
 ghost use Prim.Native.Nat.{_-_, _≤_};
 ghost use lib.ListN.{length, take, drop};
+ghost use Rattle.codeword.specs.Sizes.{most-codewords};
 ghost use Rattle.codeword.specs.Reading.{inAscii};
 ghost use Rattle.optimum.specs.Write.{write, padding};
 ghost use Rattle.symbol_writer.specs.Rows.{Filled};
@@ -61,7 +62,7 @@ pub fn put_codewords(text: &[u8], n: usize, padded: bool, work: &[u16], symbol: 
 
 // Pads, from the place `first` on up to the capacity.
 pub fn put_pads(symbol: &mut [u8], first: usize, capacity: usize)
-    requires { ⌜ (first ≤ capacity) × (capacity ≤ length (now symbol)) × (capacity ≤ 1558) ⌝ }
+    requires { ⌜ (first ≤ capacity) × (capacity ≤ length (now symbol)) × (capacity ≤ most-codewords) ⌝ }
     ensures { λ _. ⌜ now (symbol .exit) ≡ (take first (now (symbol .entry)) ++ padding first first (capacity - first)) ++ drop capacity (now (symbol .entry)) ⌝ }
 {
     let mut i = first;

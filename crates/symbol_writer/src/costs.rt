@@ -8,7 +8,7 @@ ghost use lib.Dec.{leb};
 ghost use lib.ListN.{length, getD};
 ghost use Rattle.refusal.specs.Pick.{pick};
 ghost use Rattle.refusal.specs.Limits.{limit};
-ghost use Rattle.optimum.specs.Cost.{digit, base, before, cost};
+ghost use Rattle.optimum.specs.Cost.{inf, digit, base, before, cost};
 ghost use Rattle.symbol_writer.specs.Rows.{costsOf, kOf, Low, putAt, workRoom, Filled};
 
 // More than any capacity: no codewords will do.
@@ -82,7 +82,7 @@ fn two_more(a: Least) -> Least
 // A character, or the first of two digits.
 fn by_chars(d: bool, k: Costs) -> Least
     requires { ⌜ Low k ⌝ }
-    ensures { λ r. ⌜ (r .even ≡ min (suc (k .ascii .odd)) (pick d (suc (k .digit .odd)) 8192)) × (r .odd ≡ min (suc (k .ascii .even)) (pick d (suc (k .digit .even)) 8192)) ⌝ }
+    ensures { λ r. ⌜ (r .even ≡ min (suc (k .ascii .odd)) (pick d (suc (k .digit .odd)) inf)) × (r .odd ≡ min (suc (k .ascii .even)) (pick d (suc (k .digit .even)) inf)) ⌝ }
 {
     let never = Least {
         even: NEVER,
@@ -97,7 +97,7 @@ fn by_chars(d: bool, k: Costs) -> Least
 // The lone last codeword: one for the last character, in front of the very end.
 fn by_lone(k: Costs) -> Least
     requires { ⌜ Low k ⌝ }
-    ensures { λ r. ⌜ (r .even ≡ suc 8192) × (r .odd ≡ suc (k .end)) ⌝ }
+    ensures { λ r. ⌜ (r .even ≡ suc inf) × (r .odd ≡ suc (k .end)) ⌝ }
 {
     Least {
         even: NEVER + 1,
@@ -108,7 +108,7 @@ fn by_lone(k: Costs) -> Least
 // A value or two of a new pair, or the lone last codeword.
 fn by_values(b: bool, k: Costs) -> Least
     requires { ⌜ Low k ⌝ }
-    ensures { λ r. ⌜ (r .even ≡ min (suc 8192) (pick b (k .one .even) (k .two .even))) × (r .odd ≡ min (suc (k .end)) (pick b (k .one .odd) (k .two .odd))) ⌝ }
+    ensures { λ r. ⌜ (r .even ≡ min (suc inf) (pick b (k .one .even) (k .two .even))) × (r .odd ≡ min (suc (k .end)) (pick b (k .one .odd) (k .two .odd))) ⌝ }
 {
     let lone = by_lone(k);
     let values = either(b, k.one, k.two);
@@ -136,7 +136,7 @@ fn by_second(b: bool, k: Costs) -> Least
 // The third value of a pair: filler and back to ASCII mode or to the lone last codeword, or a value of the character.
 fn by_third(b: bool, ascii: Least, k: Costs) -> Least
     requires { ⌜ (Low k) × (ascii .even < 62000) × (ascii .odd < 62000) ⌝ }
-    ensures { λ r. ⌜ (r .even ≡ 2 + min (min (suc (ascii .odd)) (suc 8192)) (pick b (k .none .even) (k .one .even))) × (r .odd ≡ 2 + min (min (suc (ascii .even)) (suc (k .end))) (pick b (k .none .odd) (k .one .odd))) ⌝ }
+    ensures { λ r. ⌜ (r .even ≡ 2 + min (min (suc (ascii .odd)) (suc inf)) (pick b (k .none .even) (k .one .even))) × (r .odd ≡ 2 + min (min (suc (ascii .even)) (suc (k .end))) (pick b (k .none .odd) (k .one .odd))) ⌝ }
 {
     let lone = by_lone(k);
     let filler = or_change(lone, ascii);

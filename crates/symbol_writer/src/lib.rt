@@ -23,7 +23,7 @@ ghost use mathlib.Core.List.{_++_};
 ghost use Prim.Native.Nat.{_≤_};
 ghost use lib.ListN.{length, drop};
 ghost use Rattle.refusal.specs.Numbers.{refusal};
-ghost use Rattle.codeword.specs.Sizes.{capacities};
+ghost use Rattle.codeword.specs.Sizes.{capacities, most-codewords};
 ghost use Rattle.codeword.specs.Reading.{inAscii};
 ghost use Rattle.optimum.specs.Write.{write, choose};
 ghost use Rattle.symbol_writer.specs.Rows.{workRoom, Filled};
@@ -104,7 +104,7 @@ fn put_symbol(
     symbol: &mut [u8],
 ) -> usize
     requires { ⌜ (Lent (now text) (now work) 0) × (Filled true (now text) (now work) (now work) 0) ⌝ }
-    requires { ⌜ (used ≤ capacity) × (capacity ≤ length (now symbol)) × (capacity ≤ 1558) ⌝ }
+    requires { ⌜ (used ≤ capacity) × (capacity ≤ length (now symbol)) × (capacity ≤ most-codewords) ⌝ }
     ensures { λ r. ⌜ PutSymbol (write padded used inAscii (now (text .entry))) capacity (now (symbol .entry)) (now (symbol .exit)) (now (work .entry)) (now (work .exit)) r ⌝ }
 {
     refill(text, padded, work);

@@ -9,6 +9,7 @@ use lib.ListN.{length}
 use borrow.Fn.Kinds.{In}
 use borrow.Fn.PlainCycle.{Measures, is, falls, and}
 use Rattle.refusal.specs.Limits.{limit}
+use Rattle.codeword.specs.Sizes.{most-codewords}
 use Rattle.codeword.specs.Reading.{inAscii, inC40}
 use Rattle.symbol_reader.specs.Steps.{reading, NextFits}
 use Rattle.symbol_reader.proofs.Nexts.{rest-length, on-ascii, on-c40, on-done}
@@ -42,7 +43,7 @@ abbrev read-c40-below : ℕ → In 2 read-c40-kinds.ps
 read-c40-below t = and 2 read-c40-kinds.ps (falls 2 read-c40-kinds.ps _<_ μ-read-c40 t) read-c40.Pre
 
 abbrev ascii-Inv : read-ascii-lts.InvT-loop
-ascii-Inv codewords place text₀ n rest₀ at₀ len₀ text rest at len = (reading rest inAscii at len text ≡ reading codewords inAscii place n text₀) × (at + length rest ≤ 1558) × (len ≤ limit) × (length text ≡ length text₀) × (length rest ≤ length codewords)
+ascii-Inv codewords place text₀ n rest₀ at₀ len₀ text rest at len = (reading rest inAscii at len text ≡ reading codewords inAscii place n text₀) × (at + length rest ≤ most-codewords) × (len ≤ limit) × (length text ≡ length text₀) × (length rest ≤ length codewords)
 
 abbrev ascii-μ : read-ascii-lts.MeasureT-loop
 ascii-μ codewords place text₀ n rest₀ at₀ len₀ text rest at len = length rest
@@ -145,7 +146,7 @@ module _ (t : ℕ) where
       (on-done 1 (c7 .loop .rest .now) (c7 .loop .at) _ (c .before .next3 .given .1) (c5 .ascii-step .ensures .0) ∙ c7 .loop .inv .0, subst (NextFits 1 (length (c7 .loop .rest .now))) (c .before .next3 .given .1) (c5 .ascii-step .ensures .1))
 
 abbrev c40-Inv : read-c40-lts.InvT-loop
-c40-Inv codewords place text₀ n rest₀ at₀ len₀ shift₀ text rest at len shift = (reading rest (inC40 shift) at len text ≡ reading codewords (inC40 shift₀) place n text₀) × (at + length rest ≤ 1558) × (len ≤ limit) × (length text ≡ length text₀) × (length rest ≤ length codewords)
+c40-Inv codewords place text₀ n rest₀ at₀ len₀ shift₀ text rest at len shift = (reading rest (inC40 shift) at len text ≡ reading codewords (inC40 shift₀) place n text₀) × (at + length rest ≤ most-codewords) × (len ≤ limit) × (length text ≡ length text₀) × (length rest ≤ length codewords)
 
 abbrev c40-μ : read-c40-lts.MeasureT-loop
 c40-μ codewords place text₀ n rest₀ at₀ len₀ shift₀ text rest at len shift = length rest

@@ -6,7 +6,7 @@ use Prim.Native.Nat.{ℕ, _-_, _≤_, _<_}
 use native.Mathlib.Omega.{arith}
 use lib.ListN.{getD, drop}
 use borrow.Author.Needs.{needs}
-use Rattle.codeword.specs.Sizes.{capacities}
+use Rattle.codeword.specs.Sizes.{capacities, most-codewords}
 use Rattle.optimum.specs.Write.{choose}
 use Rattle.symbol_writer.proofs.Choice.{Same, capacity-low, too-large, with-pad, exactly, larger, none-left}
 use Rattle.symbol_writer.proofs.sizes.choose_size.Statement.{statement}
@@ -35,7 +35,7 @@ array-read-capacity c = search needs
 at : (sizes : List ℕ) (k : ℕ) → sizes ≡ capacities → getD sizes k 0 ≡ getD capacities k 0
 at sizes k e = ap (λ (l : List ℕ). getD l k 0) e
 
-most : (sizes : List ℕ) (k : ℕ) → sizes ≡ capacities → k < 24 → getD sizes k 0 ≤ 1558
+most : (sizes : List ℕ) (k : ℕ) → sizes ≡ capacities → k < 24 → getD sizes k 0 ≤ most-codewords
 most sizes k e h = omega (arith, at sizes k e, capacity-low k h)
 
 returns : tie.Need-returns Inv-loop μ-loop
