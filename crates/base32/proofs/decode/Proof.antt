@@ -40,7 +40,9 @@ part-read-group-end-2 : tie.Need-part-read-group-end-2 Inv-loop μ-loop
 part-read-group-end-2 c = omega arith
 
 read-group-requires : tie.Need-read-group-requires Inv-loop μ-loop
-read-group-requires c κs = (omega (arith, part-length (c .before .before .before .before .before .before .args .chars .now) (c .before .before .before .loop .p)), part-in (c .before .before .before .before .before .before .args .chars .now) (c .before .before .before .loop .p) (c .before .before .before .before .before .before .pre .0), omega (arith, part-length (c .before .before .before .before .before .before .args .chars .now) (c .before .before .before .loop .p), part-length (c .before .before .before .loop .out) (c .before .before .before .loop .q)))
+read-group-requires c κs =
+    let c6 = c .before .before .before .before .before .before in
+    (omega (arith, part-length (c6 .args .chars .now) (c .before .before .before .loop .p)), part-in (c6 .args .chars .now) (c .before .before .before .loop .p) (c6 .pre .0), omega (arith, part-length (c6 .args .chars .now) (c .before .before .before .loop .p), part-length (c .before .before .before .loop .out) (c .before .before .before .loop .q)))
 
 add-p : tie.Need-add-p Inv-loop μ-loop
 add-p c = omega arith
@@ -82,7 +84,9 @@ part-read-rest-end-2 : tie.Need-part-read-rest-end-2 Inv-loop μ-loop
 part-read-rest-end-2 c = omega arith
 
 read-rest-requires : tie.Need-read-rest-requires Inv-loop μ-loop
-read-rest-requires c κs = (omega (arith, part-length (c .before .before .before .before .before .before .args .chars .now) (c .before .before .before .loop .p)), part-in (c .before .before .before .before .before .before .args .chars .now) (c .before .before .before .loop .p) (c .before .before .before .before .before .before .pre .0), omega (arith, part-length (c .before .before .before .before .before .before .args .chars .now) (c .before .before .before .loop .p), part-length (c .before .before .before .loop .out) (c .before .before .before .loop .q)))
+read-rest-requires c κs =
+    let c6 = c .before .before .before .before .before .before in
+    (omega (arith, part-length (c6 .args .chars .now) (c .before .before .before .loop .p)), part-in (c6 .args .chars .now) (c .before .before .before .loop .p) (c6 .pre .0), omega (arith, part-length (c6 .args .chars .now) (c .before .before .before .loop .p), part-length (c .before .before .before .loop .out) (c .before .before .before .loop .q)))
 
 same-length : tie.Need-same-length Inv-loop μ-loop
 same-length c = search needs

@@ -42,11 +42,12 @@ same-length c = search needs
 
 returns : tie.Need-returns
 returns c =
-    let s = c .before .before .before .before .before .before .before .before .before .before .before .before .before .before in
+    let c10 = c .before .before .before .before .before .before .before .before .before .before in
+    let s = c10 .before .before .before .before in
     let l = s .args .chars .now in
-    let g = c .before .before .before .before .before .before .before .before .before .before .copy .last .1 .0 in
-    let long = filled-length l (replicate 8 65) g (omega (arith, s .pre .0)) (c .before .before .before .before .before .before .before .before .before .before .copy .ensures) in
-    rest-filled decoded l (replicate 8 65) (replicate 5 0) g _ (s .args .out .now) _ 8 5 (5 * length l / 8) (c .before .before .before .before .before .before .before .before .before .before .copy .ensures) long (length-decoded g ∙ ap (λ n. 5 * n / 8) long)
+    let g = c10 .copy .last .1 .0 in
+    let long = filled-length l (replicate 8 65) g (omega (arith, s .pre .0)) (c10 .copy .ensures) in
+    rest-filled decoded l (replicate 8 65) (replicate 5 0) g _ (s .args .out .now) _ 8 5 (5 * length l / 8) (c10 .copy .ensures) long (length-decoded g ∙ ap (λ n. 5 * n / 8) long)
     (omega (arith, s .pre .0)) (c .before .before .before .before .before .before .read-group .ensures) (decoded-rest l (s .pre .0)) (length-decoded l) (c .before .before .copy2 .ensures)
 
 pub read-rest-spec : {M : Type 1} → statement M

@@ -40,7 +40,9 @@ part-write-group-end-2 : tie.Need-part-write-group-end-2 Inv-loop μ-loop
 part-write-group-end-2 c = omega arith
 
 write-group-requires : tie.Need-write-group-requires Inv-loop μ-loop
-write-group-requires c κs = (omega (arith, part-length (c .before .before .before .before .before .before .args .bytes .now) (c .before .before .before .loop .p)), omega (arith, part-length (c .before .before .before .before .before .before .args .bytes .now) (c .before .before .before .loop .p), part-length (c .before .before .before .loop .out) (c .before .before .before .loop .q)))
+write-group-requires c κs =
+    let c6 = c .before .before .before .before .before .before in
+    (omega (arith, part-length (c6 .args .bytes .now) (c .before .before .before .loop .p)), omega (arith, part-length (c6 .args .bytes .now) (c .before .before .before .loop .p), part-length (c .before .before .before .loop .out) (c .before .before .before .loop .q)))
 
 add-p : tie.Need-add-p Inv-loop μ-loop
 add-p c = omega arith
@@ -82,7 +84,9 @@ part-write-rest-end-2 : tie.Need-part-write-rest-end-2 Inv-loop μ-loop
 part-write-rest-end-2 c = omega arith
 
 write-rest-requires : tie.Need-write-rest-requires Inv-loop μ-loop
-write-rest-requires c κs = (omega (arith, part-length (c .before .before .before .before .before .before .args .bytes .now) (c .before .before .before .loop .p)), omega (arith, part-length (c .before .before .before .before .before .before .args .bytes .now) (c .before .before .before .loop .p), part-length (c .before .before .before .loop .out) (c .before .before .before .loop .q)))
+write-rest-requires c κs =
+    let c6 = c .before .before .before .before .before .before in
+    (omega (arith, part-length (c6 .args .bytes .now) (c .before .before .before .loop .p)), omega (arith, part-length (c6 .args .bytes .now) (c .before .before .before .loop .p), part-length (c .before .before .before .loop .out) (c .before .before .before .loop .q)))
 
 same-length : tie.Need-same-length Inv-loop μ-loop
 same-length c = search needs

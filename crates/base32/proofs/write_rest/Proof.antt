@@ -41,10 +41,11 @@ same-length c = search needs
 
 returns : tie.Need-returns
 returns c =
-    let s = c .before .before .before .before .before .before .before .before .before .before .before .before .before .before in
+    let c10 = c .before .before .before .before .before .before .before .before .before .before in
+    let s = c10 .before .before .before .before in
     let l = s .args .bytes .now in
-    let long = filled-length l (replicate 5 0) (c .before .before .before .before .before .before .before .before .before .before .copy .last .1 .0) (omega (arith, s .pre .0)) (c .before .before .before .before .before .before .before .before .before .before .copy .ensures) in
-    rest-filled encoded l (replicate 5 0) (replicate 8 0) _ _ (s .args .out .now) _ 5 8 ((8 * length l + 4) / 5) (c .before .before .before .before .before .before .before .before .before .before .copy .ensures) long (length-encoded _ ∙ ap (λ n. (8 * n + 4) / 5) long)
+    let long = filled-length l (replicate 5 0) (c10 .copy .last .1 .0) (omega (arith, s .pre .0)) (c10 .copy .ensures) in
+    rest-filled encoded l (replicate 5 0) (replicate 8 0) _ _ (s .args .out .now) _ 5 8 ((8 * length l + 4) / 5) (c10 .copy .ensures) long (length-encoded _ ∙ ap (λ n. (8 * n + 4) / 5) long)
     (omega (arith, s .pre .0)) (c .before .before .before .before .before .before .write-group .ensures) (encoded-rest l (s .pre .0)) (length-encoded l) (c .before .before .copy2 .ensures)
 
 pub write-rest-spec : {M : Type 1} → statement M

@@ -39,8 +39,9 @@ returns-5 c = simp (le-ltb _ _ (c .before .before .before .before .if1 .left), n
 returns-6 : tie.Need-returns-6
 unfolding setOf
 returns-6 c =
+    let c5 = c .before .before .before .before .before in
     simp (le-ltb _ _ (c .before .before .before .before .if1 .left), ne-eqb _ _ (c .before .before .before .if2 .left), le-ltb _ _ (c .before .before .if3 .left), le-ltb _ _ (c .before .if4 .left), le-ltb _ _ (c .if5 .left))
-    (last-test (ltb (c .before .before .before .before .before .args .c) 91) (ltb (c .before .before .before .before .before .args .c) 96))
+    (last-test (ltb (c5 .args .c) 91) (ltb (c5 .args .c) 96))
 
 pub is-basic-spec : {M : Type 1} → statement M
 is-basic-spec = tie.close (tie.spec returns returns-2 returns-3 returns-4 returns-5 returns-6)

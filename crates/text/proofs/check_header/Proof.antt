@@ -36,11 +36,12 @@ enum-told c = search needs
 
 returns : tie.Need-returns
 returns c =
-    let v = c .before .before .before .before .before .v .given .0 .0 in
+    let c5 = c .before .before .before .before .before in
+    let v = c5 .v .given .0 .0 in
     let chars = c .before .before .header-chars .result in
     c .check-parts .ensures .0
     ∙ ap (λ x. verdict (parts v x)) (ap (λ n. take n chars) (c .before .before .before .size-of .ensures) ∙ c .before .before .header-chars .ensures)
-    ∙ known-verdict v (c .before .before .before .before .before .before .before .before .args .h) (ap versionSays (sym (c .before .before .before .before .before .v .given .1)) ∙ c .before .before .before .before .before .before .before .header-version .ensures)
+    ∙ known-verdict v (c5 .before .before .before .args .h) (ap versionSays (sym (c5 .v .given .1)) ∙ c5 .before .before .header-version .ensures)
 
 returns-2 : tie.Need-returns-2
 returns-2 c = unknown-verdict (c .before .before .before .args .h) _ _ (ap versionSays (sym (c .enum-told .given .1)) ∙ c .before .before .header-version .ensures)

@@ -47,13 +47,16 @@ returns : tie.Need-returns
 returns c = c .accepted .ensures ∙ ap (λ v. tailVerdict v (c .before .before .before .before .args .text .now)) (sym (c .before .enum-told .given .1))
 
 returns-2 : tie.Need-returns-2
-returns-2 c = c .check-perimeter .ensures ∙ tail-03 (c .before .before .before .before .args .text .now) ∙ ap (λ v. tailVerdict v (c .before .before .before .before .args .text .now)) (sym (c .before .enum-told2 .given .1))
+returns-2 c =
+    let c4 = c .before .before .before .before in
+    c .check-perimeter .ensures ∙ tail-03 (c4 .args .text .now) ∙ ap (λ v. tailVerdict v (c4 .args .text .now)) (sym (c .before .enum-told2 .given .1))
 
 returns-3 : tie.Need-returns-3
 returns-3 c =
+    let c6 = c .before .before .before .before .before .before in
     c .first-of .ensures
     ∙ (λ i. firstOf (c .before .before .check-perimeter2 .ensures i) (c .before .check-country .ensures i))
-    ∙ tail-04 (c .before .before .before .before .before .before .args .text .now) ∙ ap (λ v. tailVerdict v (c .before .before .before .before .before .before .args .text .now)) (sym (c .before .before .before .enum-told3 .given .1))
+    ∙ tail-04 (c6 .args .text .now) ∙ ap (λ v. tailVerdict v (c6 .args .text .now)) (sym (c .before .before .before .enum-told3 .given .1))
 
 pub check-tail-spec : {M : Type 1} → statement M
 check-tail-spec =

@@ -37,8 +37,9 @@ loop-less c = omega arith
 
 loop-again : tie.Need-loop-again Inv-loop μ-loop
 loop-again c =
+    let c6 = c .before .before .before .before .before .before in
     let o = c .before .before .before .before .loop in
-    (omega arith, omega arith, right-more (c .before .before .before .before .before .before .args .text .now) (c .before .before .before .before .before .before .args .from) (o .i) (o .inv .2) (sym (c .before .in-place .ensures) ∙ not-false _ (c .if1 .left)))
+    (omega arith, omega arith, right-more (c6 .args .text .now) (c6 .args .from) (o .i) (o .inv .2) (sym (c .before .in-place .ensures) ∙ not-false _ (c .if1 .left)))
 
 returns-2 : tie.Need-returns-2 Inv-loop μ-loop
 returns-2 c =

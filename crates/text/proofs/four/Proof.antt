@@ -26,7 +26,9 @@ shared-slice-read-t13 : tie.Need-shared-slice-read-t13
 shared-slice-read-t13 c = search needs
 
 returns : tie.Need-returns
-returns c = four-chars (c .before .before .before .before .args .text .now) (c .before .before .before .before .args .at)
+returns c =
+    let c4 = c .before .before .before .before in
+    four-chars (c4 .args .text .now) (c4 .args .at)
 
 pub four-spec : {M : Type 1} → statement M
 four-spec =

@@ -58,8 +58,10 @@ add-result-3 c = search needs
 
 returns : tie.Need-returns
 returns c =
-    let s = c .before .before .before .before .before .before .before .before .before in
-    day (s .args .text .now) (s .args .at) (c .before .before .before .before .before .before .hex-value .result) (c .before .before .before .before .hex-value2 .result) (c .before .before .hex-value3 .result) (c .hex-value4 .result) (c .before .before .before .before .before .before .hex-value .ensures .0) (c .before .before .before .before .hex-value2 .ensures .0) (c .before .before .hex-value3 .ensures .0) (c .hex-value4 .ensures .0)
+    let c4 = c .before .before .before .before in
+    let c6 = c4 .before .before in
+    let s = c6 .before .before .before in
+    day (s .args .text .now) (s .args .at) (c6 .hex-value .result) (c4 .hex-value2 .result) (c .before .before .hex-value3 .result) (c .hex-value4 .result) (c6 .hex-value .ensures .0) (c4 .hex-value2 .ensures .0) (c .before .before .hex-value3 .ensures .0) (c .hex-value4 .ensures .0)
 
 pub hex-number-spec : {M : Type 1} → statement M
 hex-number-spec =

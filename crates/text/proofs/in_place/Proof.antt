@@ -21,7 +21,9 @@ is-hex-requires : tie.Need-is-hex-requires
 is-hex-requires c κs = search needs
 
 returns-3 : tie.Need-returns-3
-returns-3 c = c .is-hex .ensures ∙ place-hex (c .before .before .before .before .args .p) (c .before .before .before .before .args .c) (c .before .before .if2 .left) (c .before .if3 .taken)
+returns-3 c =
+    let c4 = c .before .before .before .before in
+    c .is-hex .ensures ∙ place-hex (c4 .args .p) (c4 .args .c) (c .before .before .if2 .left) (c .before .if3 .taken)
 
 is-letter-requires-2 : tie.Need-is-letter-requires-2
 is-letter-requires-2 c κs = search needs
@@ -30,10 +32,14 @@ is-upper-requires-2 : tie.Need-is-upper-requires-2
 is-upper-requires-2 c κs = search needs
 
 returns-4 : tie.Need-returns-4
-returns-4 c = c .is-letter2 .ensures ∙ place-type (c .before .before .before .before .before .args .p) (c .before .before .before .before .before .args .c) (c .before .before .if3 .left) (c .before .if4 .taken)
+returns-4 c =
+    let c5 = c .before .before .before .before .before in
+    c .is-letter2 .ensures ∙ place-type (c5 .args .p) (c5 .args .c) (c .before .before .if3 .left) (c .before .if4 .taken)
 
 returns-5 : tie.Need-returns-5
-returns-5 c = c .is-upper2 .ensures ∙ place-country (c .before .before .before .before .before .args .p) (c .before .before .before .before .before .args .c) (c .before .if4 .left)
+returns-5 c =
+    let c5 = c .before .before .before .before .before in
+    c .is-upper2 .ensures ∙ place-country (c5 .args .p) (c5 .args .c) (c .before .if4 .left)
 
 pub in-place-spec : {M : Type 1} → statement M
 in-place-spec =

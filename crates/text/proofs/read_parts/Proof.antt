@@ -32,7 +32,9 @@ hex-number-requires-2 c κs =
     )
 
 two-requires : tie.Need-two-requires
-two-requires c κs = omega (arith, least-size (c .before .before .before .before .before .before .args .v), c .before .before .before .before .before .before .pre .0)
+two-requires c κs =
+    let c6 = c .before .before .before .before .before .before in
+    omega (arith, least-size (c6 .args .v), c6 .pre .0)
 
 perimeter-at-requires : tie.Need-perimeter-at-requires
 perimeter-at-requires c κs = c .before .before .before .before .before .before .before .pre .0

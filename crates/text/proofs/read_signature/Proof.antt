@@ -26,9 +26,10 @@ refuse-signature-requires c κs = search needs
 
 returns : tie.Need-returns
 returns c =
-    let s = c .before .before .before .before .before .before .args in
+    let c4 = c .before .before .before .before in
+    let s = c4 .before .before .args in
     let l = s .chars .now in
-    c .refuse-signature .ensures ∙ ap signatureAnswer (sign-wrong-at (s .v) (s .from) l (c .before .before .before .before .count-leading .result) (c .before .wrong-number .result) (c .before .before .before .before .count-leading .ensures) (c .before .before .before .if1 .taken) (c .before .wrong-number .ensures))
+    c .refuse-signature .ensures ∙ ap signatureAnswer (sign-wrong-at (s .v) (s .from) l (c4 .count-leading .result) (c .before .wrong-number .result) (c4 .count-leading .ensures) (c .before .before .before .if1 .taken) (c .before .wrong-number .ensures))
 
 is-length-requires : tie.Need-is-length-requires
 is-length-requires c κs = search needs
@@ -38,9 +39,10 @@ refuse-signature-requires-2 c κs = search needs
 
 returns-2 : tie.Need-returns-2
 returns-2 c =
-    let s = c .before .before .before .before .before .before .args in
+    let c4 = c .before .before .before .before in
+    let s = c4 .before .before .args in
     let l = s .chars .now in
-    c .refuse-signature2 .ensures ∙ ap signatureAnswer (sym (sign-length (s .v) (s .from) l (all-lead l (c .before .before .before .before .count-leading .result) (c .before .before .before .before .count-leading .ensures) (c .before .before .before .if1 .left)) (sym (c .before .before .is-length .ensures) ∙ not-true _ (c .before .if2 .taken))))
+    c .refuse-signature2 .ensures ∙ ap signatureAnswer (sym (sign-length (s .v) (s .from) l (all-lead l (c4 .count-leading .result) (c4 .count-leading .ensures) (c .before .before .before .if1 .left)) (sym (c .before .before .is-length .ensures) ∙ not-true _ (c .before .if2 .taken))))
 
 spare-bits-requires : tie.Need-spare-bits-requires
 spare-bits-requires c κs =
@@ -53,25 +55,28 @@ refuse-signature-requires-3 c κs = search needs
 
 returns-3 : tie.Need-returns-3
 returns-3 c =
-    let s = c .before .before .before .before .before .before .before .before .args in
+    let c6 = c .before .before .before .before .before .before in
+    let s = c6 .before .before .args in
     let l = s .chars .now in
-    c .refuse-signature3 .ensures ∙ ap signatureAnswer (sym (sign-spare (s .v) (s .from) l (all-lead l (c .before .before .before .before .before .before .count-leading .result) (c .before .before .before .before .before .before .count-leading .ensures) (c .before .before .before .before .before .if1 .left)) (sym (c .before .before .before .before .is-length .ensures) ∙ not-false _ (c .before .before .before .if2 .left)) (λ e. c .before .if3 .taken (c .before .before .spare-bits .ensures ∙ e))))
+    c .refuse-signature3 .ensures ∙ ap signatureAnswer (sym (sign-spare (s .v) (s .from) l (all-lead l (c6 .count-leading .result) (c6 .count-leading .ensures) (c .before .before .before .before .before .if1 .left)) (sym (c .before .before .before .before .is-length .ensures) ∙ not-false _ (c .before .before .before .if2 .left)) (λ e. c .before .if3 .taken (c .before .before .spare-bits .ensures ∙ e))))
 
 read-base32-requires : tie.Need-read-base32-requires
 read-base32-requires c κs =
-    let s = c .before .before .before .before .before .before .before .args in
+    let c5 = c .before .before .before .before .before in
+    let s = c5 .before .before .args in
     let l = s .chars .now in
-    (all-lead l (c .before .before .before .before .before .count-leading .result) (c .before .before .before .before .before .count-leading .ensures) (c .before .before .before .before .if1 .left), length-most _ (sym (c .before .before .before .is-length .ensures) ∙ not-false _ (c .before .before .if2 .left)))
+    (all-lead l (c5 .count-leading .result) (c5 .count-leading .ensures) (c .before .before .before .before .if1 .left), length-most _ (sym (c .before .before .before .is-length .ensures) ∙ not-false _ (c .before .before .if2 .left)))
 
 mul-t15 : tie.Need-mul-t15
 mul-t15 c = search needs
 
 returns-4 : tie.Need-returns-4
 returns-4 c =
-    let s = c .before .before .before .before .before .before .before .before .args in
+    let c6 = c .before .before .before .before .before .before in
+    let s = c6 .before .before .args in
     let l = s .chars .now in
     (λ i. record { refusal = refusal 0 0; bytes = c .read-base32 .ensures i; count = sym (length-decoded l) i })
-    ∙ ap signatureAnswer (sym (sign-good (s .v) (s .from) l (all-lead l (c .before .before .before .before .before .before .count-leading .result) (c .before .before .before .before .before .before .count-leading .ensures) (c .before .before .before .before .before .if1 .left)) (sym (c .before .before .before .before .is-length .ensures) ∙ not-false _ (c .before .before .before .if2 .left)) (sym (c .before .before .spare-bits .ensures) ∙ c .before .if3 .left)))
+    ∙ ap signatureAnswer (sym (sign-good (s .v) (s .from) l (all-lead l (c6 .count-leading .result) (c6 .count-leading .ensures) (c .before .before .before .before .before .if1 .left)) (sym (c .before .before .before .before .is-length .ensures) ∙ not-false _ (c .before .before .before .if2 .left)) (sym (c .before .before .spare-bits .ensures) ∙ c .before .if3 .left)))
 
 pub read-signature-spec : {M : Type 1} → statement M
 read-signature-spec =

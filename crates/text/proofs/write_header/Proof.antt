@@ -24,8 +24,9 @@ same-length c = search needs
 
 returns : tie.Need-returns
 returns c =
-    let s = c .before .before .before .before .before .before .before .before .args in
-    header-over (s .v) (s .h) (c .before .before .before .before .before .before .header-chars .result) (s .out .now) _ (c .before .before .before .size-of .result) (c .before .before .before .size-of .ensures) (search needs) (c .before .before .before .before .before .before .header-chars .ensures) (c .before .before .copy .ensures)
+    let c6 = c .before .before .before .before .before .before in
+    let s = c6 .before .before .args in
+    header-over (s .v) (s .h) (c6 .header-chars .result) (s .out .now) _ (c .before .before .before .size-of .result) (c .before .before .before .size-of .ensures) (search needs) (c6 .header-chars .ensures) (c .before .before .copy .ensures)
 
 pub write-header-spec : {M : Type 1} → statement M
 write-header-spec =

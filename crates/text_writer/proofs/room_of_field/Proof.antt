@@ -78,11 +78,14 @@ room-of-data-requires c κs = search needs
 
 returns-4 : tie.Need-returns-4
 returns-4 c =
-    let s = c .before .before .before .before .before .before .before .before .before .before .before .before .before .before .args in
-    let r = row-is (s .f .row) _ (s .i) (c .before .before .before .before .before .before .before .before .before .before .before .row-number .ensures) (c .before .before .before .before .before .before .before .before .before .before .row-at .ensures) (c .before .before .before .before .before .before .before .before .found .given .1) in
-    let h : s .f .start + s .f .length ≤ length (s .slice .now) = omega (arith, c .before .before .before .before .if1 .left, c .before .before .before .before .before .wide2 .ensures .0, c .before .before .before .before .before .before .wide .ensures .0) in (
+    let c5 = c .before .before .before .before .before in
+    let c6 = c5 .before in
+    let c8 = c6 .before .before in
+    let s = c8 .before .before .before .before .before .before .args in
+    let r = row-is (s .f .row) _ (s .i) (c8 .before .before .before .row-number .ensures) (c8 .before .before .row-at .ensures) (c8 .found .given .1) in
+    let h : s .f .start + s .f .length ≤ length (s .slice .now) = omega (arith, c .before .before .before .before .if1 .left, c5 .wide2 .ensures .0, c6 .wide .ensures .0) in (
       λ before e. c .room-of-data .ensures .0
-          ∙ ap (λ l. roomOf (writeData (c .before .before .before .before .before .before .before .before .found .given .0 .0) l (s .f .cut) (s .i))) (part-is (s .slice .now) (c .before .before .before .before .before .before .wide .ensures .0) (c .before .before .before .before .before .wide2 .ensures .0))
+          ∙ ap (λ l. roomOf (writeData (c8 .found .given .0 .0) l (s .f .cut) (s .i))) (part-is (s .slice .now) (c6 .wide .ensures .0) (c5 .wide2 .ensures .0))
           ∙ ap roomOf (field-data theRows (s .slice .now) before (s .i) (s .f) _ r h
           (ap (among (s .f .row)) e ∙ sym (c .before .before .before .is-taken .ensures) ∙ c .before .before .if2 .left)),
       c .room-of-data .ensures .1,

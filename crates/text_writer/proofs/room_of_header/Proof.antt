@@ -20,8 +20,9 @@ header-size-requires c κs = search needs
 
 returns-2 : tie.Need-returns-2
 returns-2 c =
-    let s = c .before .before .before .before .args in
-    (ap Takes (c .header-size .ensures .0) ∙ ap roomOf (sym (header-good (s .v) (s .h) (c .before .before .before .before .pre) _ (c .before .before .before .check-header .ensures) (omega (arith, c .before .if1 .left)))), c .header-size .ensures .1 .1)
+    let c4 = c .before .before .before .before in
+    let s = c4 .args in
+    (ap Takes (c .header-size .ensures .0) ∙ ap roomOf (sym (header-good (s .v) (s .h) (c4 .pre) _ (c .before .before .before .check-header .ensures) (omega (arith, c .before .if1 .left)))), c .header-size .ensures .1 .1)
 
 pub room-of-header-spec : {M : Type 1} → statement M
 room-of-header-spec =

@@ -23,8 +23,9 @@ enum-told c = search needs
 
 returns : tie.Need-returns
 returns c =
-    let s = c .before .before .before .before .before .args in
-    header-refused theRows (messageOf (s .header) (s .fields) (s .signature .now)) (s .slice .now) (omega (arith, take-most (s .fields .count) (s .fields .list), c .before .before .before .before .before .pre .1)) (c .before .before .room-of-header .ensures .0) (c .enum-told .given .1)
+    let c5 = c .before .before .before .before .before in
+    let s = c5 .args in
+    header-refused theRows (messageOf (s .header) (s .fields) (s .signature .now)) (s .slice .now) (omega (arith, take-most (s .fields .count) (s .fields .list), c5 .pre .1)) (c .before .before .room-of-header .ensures .0) (c .enum-told .given .1)
 
 room-of-zone-requires : tie.Need-room-of-zone-requires
 room-of-zone-requires c κs = search needs
@@ -37,8 +38,9 @@ enum-told-2 c = search needs
 
 returns-2 : tie.Need-returns-2
 returns-2 c =
-    let s = c .before .before .before .before .before .before .before .before .before .args in
-    zone-refuses theRows (messageOf (s .header) (s .fields) (s .signature .now)) (s .slice .now) (omega (arith, take-most (s .fields .count) (s .fields .list), c .before .before .before .before .before .before .before .before .before .pre .1)) (sym (c .before .before .before .before .head .given .1) ∙ c .before .before .before .before .before .before .room-of-header .ensures .0) (c .before .before .room-of-zone .ensures .0) (c .enum-told2 .given .1)
+    let c9 = c .before .before .before .before .before .before .before .before .before in
+    let s = c9 .args in
+    zone-refuses theRows (messageOf (s .header) (s .fields) (s .signature .now)) (s .slice .now) (omega (arith, take-most (s .fields .count) (s .fields .list), c9 .pre .1)) (sym (c .before .before .before .before .head .given .1) ∙ c .before .before .before .before .before .before .room-of-header .ensures .0) (c .before .before .room-of-zone .ensures .0) (c .enum-told2 .given .1)
 
 is-signature-requires : tie.Need-is-signature-requires
 is-signature-requires c κs = search needs
@@ -48,8 +50,9 @@ refuse-requires c κs = search needs
 
 returns-3 : tie.Need-returns-3
 returns-3 c =
-    let s = c .before .before .before .before .before .before .before .before .before .before .before .before .before .args in
-    c .refuse .ensures ∙ signature-refused theRows (messageOf (s .header) (s .fields) (s .signature .now)) (s .slice .now) (omega (arith, take-most (s .fields .count) (s .fields .list), c .before .before .before .before .before .before .before .before .before .before .before .before .before .pre .1)) (sym (c .before .before .before .before .before .before .before .before .head .given .1) ∙ c .before .before .before .before .before .before .before .before .before .before .room-of-header .ensures .0) (sym (c .before .before .before .before .zone .given .1) ∙ c .before .before .before .before .before .before .room-of-zone .ensures .0)
+    let c13 = c .before .before .before .before .before .before .before .before .before .before .before .before .before in
+    let s = c13 .args in
+    c .refuse .ensures ∙ signature-refused theRows (messageOf (s .header) (s .fields) (s .signature .now)) (s .slice .now) (omega (arith, take-most (s .fields .count) (s .fields .list), c13 .pre .1)) (sym (c .before .before .before .before .before .before .before .before .head .given .1) ∙ c .before .before .before .before .before .before .before .before .before .before .room-of-header .ensures .0) (sym (c .before .before .before .before .zone .given .1) ∙ c .before .before .before .before .before .before .room-of-zone .ensures .0)
     (sym (c .before .before .is-signature .ensures) ∙ not-true _ (c .before .if1 .taken))
 
 add-t13 : tie.Need-add-t13
@@ -69,8 +72,9 @@ add-t18 c = omega (arith, subst (Below 27) (c .before .before .before .before .b
 
 returns-4 : tie.Need-returns-4
 returns-4 c =
-    let s = c .before .before .before .before .before .before .before .before .before .before .before .before .args in
-    text-takes theRows (messageOf (s .header) (s .fields) (s .signature .now)) (s .slice .now) (omega (arith, take-most (s .fields .count) (s .fields .list), c .before .before .before .before .before .before .before .before .before .before .before .before .pre .1)) (sym (c .before .before .before .before .before .before .before .head .given .1) ∙ c .before .before .before .before .before .before .before .before .before .room-of-header .ensures .0) (sym (c .before .before .before .zone .given .1) ∙ c .before .before .before .before .before .room-of-zone .ensures .0) _
+    let c12 = c .before .before .before .before .before .before .before .before .before .before .before .before in
+    let s = c12 .args in
+    text-takes theRows (messageOf (s .header) (s .fields) (s .signature .now)) (s .slice .now) (omega (arith, take-most (s .fields .count) (s .fields .list), c12 .pre .1)) (sym (c .before .before .before .before .before .before .before .head .given .1) ∙ c .before .before .before .before .before .before .before .before .before .room-of-header .ensures .0) (sym (c .before .before .before .zone .given .1) ∙ c .before .before .before .before .before .room-of-zone .ensures .0) _
     (sym (c .before .is-signature .ensures) ∙ not-false _ (c .if1 .left)) (length-encoded (s .signature .now))
 
 pub room-of-text-spec : {M : Type 1} → statement M

@@ -51,12 +51,14 @@ part-write-spelled-end c = omega (arith, c .wide2 .ensures, c .before .wide .ens
 
 write-spelled-requires : tie.Need-write-spelled-requires
 write-spelled-requires c κs =
-    let s = c .before .before .before .before .before .before .before .before .before .before .before .args in
-    let r = c .before .before .before .before .before .found .given .0 .0 in
+    let c5 = c .before .before .before .before .before in
+    let c11 = c5 .before .before .before .before .before .before in
+    let s = c11 .args in
+    let r = c5 .found .given .0 .0 in
     let p = part-is (s .slice .now) (c .before .before .before .wide .ensures .0) (c .before .before .wide2 .ensures .0) in
-    let e = chars-row theRows (s .slice .now) (s .f) (row-is (s .f .row) _ 0 (c .before .before .before .before .before .before .before .before .row-number .ensures) (c .before .before .before .before .before .before .before .row-at .ensures) (c .before .before .before .before .before .found .given .1)) in (
-      omega (arith, ap length p, data-length (s .slice .now) (s .f) (c .before .before .before .before .before .before .before .before .before .before .before .pre .1), c .before .before .wide2 .ensures),
-      omega (arith, ap (λ (l : List ℕ). length (spelled r l (s .f .cut))) p, ap length e, c .before .before .before .before .before .before .before .before .before .before .before .pre .2),
+    let e = chars-row theRows (s .slice .now) (s .f) (row-is (s .f .row) _ 0 (c5 .before .before .before .row-number .ensures) (c5 .before .before .row-at .ensures) (c5 .found .given .1)) in (
+      omega (arith, ap length p, data-length (s .slice .now) (s .f) (c11 .pre .1), c .before .before .wide2 .ensures),
+      omega (arith, ap (λ (l : List ℕ). length (spelled r l (s .f .cut))) p, ap length e, c11 .pre .2),
     )
 
 same-length : tie.Need-same-length
@@ -64,10 +66,11 @@ same-length c = search needs
 
 returns-2 : tie.Need-returns-2
 returns-2 c =
-    let s = c .before .before .before .before .before .before .before .before .before .before .before .before .before .before .args in
-    let r = c .before .before .before .before .before .before .before .before .found .given .0 .0 in
+    let c8 = c .before .before .before .before .before .before .before .before in
+    let s = c8 .before .before .before .before .before .before .args in
+    let r = c8 .found .given .0 .0 in
     let p = part-is (s .slice .now) (c .before .before .before .before .before .before .wide .ensures .0) (c .before .before .before .before .before .wide2 .ensures .0) in
-    let e = ap (λ (l : List ℕ). spelled r l (s .f .cut)) p ∙ sym (chars-row theRows (s .slice .now) (s .f) (row-is (s .f .row) _ 0 (c .before .before .before .before .before .before .before .before .before .before .before .row-number .ensures) (c .before .before .before .before .before .before .before .before .before .before .row-at .ensures) (c .before .before .before .before .before .before .before .before .found .given .1))) in
+    let e = ap (λ (l : List ℕ). spelled r l (s .f .cut)) p ∙ sym (chars-row theRows (s .slice .now) (s .f) (row-is (s .f .row) _ 0 (c8 .before .before .before .row-number .ensures) (c8 .before .before .row-at .ensures) (c8 .found .given .1))) in
     (c .before .before .write-spelled .ensures .0 ∙ ap length e, c .before .before .write-spelled .ensures .1 ∙ ap (λ (x : List ℕ). over x (s .out .now)) e)
 
 pub write-field-spec : {M : Type 1} → statement M

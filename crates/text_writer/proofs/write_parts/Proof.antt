@@ -44,13 +44,14 @@ part-write-zone-end c = search needs
 
 write-zone-requires : tie.Need-write-zone-requires
 write-zone-requires c κs =
-    let b = c .before .before .before .before .before .before .before .before .before in
+    let c5 = c .before .before .before .before .before in
+    let b = c5 .before .before .before .before in
     let s = b .args in
     let front = headerChars (s .v) (s .header) in
     let zone = zoneChars theRows (s .slice .now) (take (s .fields .count) (s .fields .list)) in
     let all = text-length front zone (encoded (s .signature .now)) in
-    let size = c .before .before .before .before .before .header-size .ensures in
-    (b .pre .0, b .pre .1, omega (arith, all, b .pre .3, size .0, c .before .before .out .given, part-length (c .before .before .before .write-header .last .1 .1 .0) (c .before .before .before .before .before .header-size .result)))
+    let size = c5 .header-size .ensures in
+    (b .pre .0, b .pre .1, omega (arith, all, b .pre .3, size .0, c .before .before .out .given, part-length (c .before .before .before .write-header .last .1 .1 .0) (c5 .header-size .result)))
 
 add-m : tie.Need-add-m
 add-m c =

@@ -44,10 +44,11 @@ part-copy-end c = search needs
 
 copy-requires : tie.Need-copy-requires
 copy-requires c κs =
-    let s = c .before .before .before .before .args in
+    let c4 = c .before .before .before .before in
+    let s = c4 .args in
     let least = spelled-least (s .r) (s .chars .now) (s .cut) in
     let l = set (set (s .out .now) 0 (s .r .first)) 1 (s .r .second) in
-    (omega arith, omega (arith, least, c .before .before .before .before .pre .1, part-length l 2, length-set (set (s .out .now) 0 (s .r .first)) 1 (s .r .second), length-set (s .out .now) 0 (s .r .first)))
+    (omega arith, omega (arith, least, c4 .pre .1, part-length l 2, length-set (set (s .out .now) 0 (s .r .first)) 1 (s .r .second), length-set (s .out .now) 0 (s .r .first)))
 
 add-result : tie.Need-add-result
 add-result c = search needs
@@ -62,8 +63,9 @@ same-length c =
 
 returns : tie.Need-returns
 returns c =
-    let s = c .before .before .before .before .before .before .before .before .args in
-    let front = two-over (s .out .now) (s .r .first) (s .r .second) (omega (arith, c .before .before .before .before .before .before .before .before .pre .1)) in
+    let c8 = c .before .before .before .before .before .before .before .before in
+    let s = c8 .args in
+    let front = two-over (s .out .now) (s .r .first) (s .r .second) (omega (arith, c8 .pre .1)) in
     let e = spelled-whole (s .r) (s .chars .now) (s .cut) (sym (c .before .before .before .before .before .mark-of .ensures) ∙ c .if1 .taken) in (
       omega (arith, ap length e),
       over-tail (s .r .first ∷ s .r .second ∷ []) (s .chars .now) (s .out .now) _ _ 2 refl front (copied (s .chars .now) _ (c .before .before .before .copy .ensures)) ∙ ap (λ (x : List ℕ). over x (s .out .now)) (sym e),
@@ -74,12 +76,13 @@ add-out c = search needs
 
 slice-write-out-3 : tie.Need-slice-write-out-3
 slice-write-out-3 c =
-    let s = c .before .before .before .before .before .before .before .before .args in
+    let c8 = c .before .before .before .before .before .before .before .before in
+    let s = c8 .args in
     let l = set (set (s .out .now) 0 (s .r .first)) 1 (s .r .second) in
     let a = length-set (set (s .out .now) 0 (s .r .first)) 1 (s .r .second) in
     let b = length-set (s .out .now) 0 (s .r .first) in
     let e = spelled-marked (s .r) (s .chars .now) (s .cut) (λ z. c .if1 .left (c .before .before .before .before .before .mark-of .ensures ∙ z)) in
-    omega (arith, a, b, c .before .before .out .given, c .before .before .before .before .before .before .before .before .pre .1, ap length e, length-append (s .chars .now) (markOf (s .r) (length (s .chars .now)) (s .cut) ∷ []))
+    omega (arith, a, b, c .before .before .out .given, c8 .pre .1, ap length e, length-append (s .chars .now) (markOf (s .r) (length (s .chars .now)) (s .cut) ∷ []))
 
 add-result-2 : tie.Need-add-result-2
 add-result-2 c = search needs
@@ -95,13 +98,15 @@ same-length-2 c =
 
 returns-2 : tie.Need-returns-2
 returns-2 c =
-    let s = c .before .before .before .before .before .before .before .before .args in
-    let front = two-over (s .out .now) (s .r .first) (s .r .second) (omega (arith, c .before .before .before .before .before .before .before .before .pre .1)) in
-    let e = spelled-marked (s .r) (s .chars .now) (s .cut) (λ z. c .if1 .left (c .before .before .before .before .before .mark-of .ensures ∙ z)) in
+    let c5 = c .before .before .before .before .before in
+    let c8 = c5 .before .before .before in
+    let s = c8 .args in
+    let front = two-over (s .out .now) (s .r .first) (s .r .second) (omega (arith, c8 .pre .1)) in
+    let e = spelled-marked (s .r) (s .chars .now) (s .cut) (λ z. c .if1 .left (c5 .mark-of .ensures ∙ z)) in
     let n = ap length e ∙ ap (λ k. suc (suc k)) (length-append (s .chars .now) (markOf (s .r) (length (s .chars .now)) (s .cut) ∷ [])) in (
       omega (arith, n),
-      one-over (s .r .first ∷ s .r .second ∷ s .chars .now) (s .out .now) _ _ _ (over-tail (s .r .first ∷ s .r .second ∷ []) (s .chars .now) (s .out .now) _ _ 2 refl front (copied (s .chars .now) _ (c .before .before .before .copy .ensures))) (omega arith) (omega (arith, n, c .before .before .before .before .before .before .before .before .pre .1))
-          ∙ ap (λ m. over (s .r .first ∷ s .r .second ∷ (s .chars .now ++ (m ∷ []))) (s .out .now)) (c .before .before .before .before .before .mark-of .ensures) ∙ ap (λ (x : List ℕ). over x (s .out .now)) (sym e),
+      one-over (s .r .first ∷ s .r .second ∷ s .chars .now) (s .out .now) _ _ _ (over-tail (s .r .first ∷ s .r .second ∷ []) (s .chars .now) (s .out .now) _ _ 2 refl front (copied (s .chars .now) _ (c .before .before .before .copy .ensures))) (omega arith) (omega (arith, n, c8 .pre .1))
+          ∙ ap (λ m. over (s .r .first ∷ s .r .second ∷ (s .chars .now ++ (m ∷ []))) (s .out .now)) (c5 .mark-of .ensures) ∙ ap (λ (x : List ℕ). over x (s .out .now)) (sym e),
     )
 
 pub write-spelled-spec : {M : Type 1} → statement M

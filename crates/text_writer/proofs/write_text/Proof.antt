@@ -54,33 +54,37 @@ no-text-requires-3 c κs = search needs
 
 returns-4 : tie.Need-returns-4
 returns-4 c =
-    let s = c .before .before .before .before .before .before .before .before .before .before .before .before .before .before .before .args in
-    let a = accepted theRows (c .before .before .before .before .before .before .before .v .given .0 .0) (s .header) (s .fields) (s .signature .now) (s .slice .now) (sym (c .before .before .before .before .before .before .before .before .before .header-version .ensures) ∙ ap versionSays (c .before .before .before .before .before .before .before .v .given .1)) (sym (c .before .before .before .n .given .1) ∙ c .before .before .before .before .before .room-of-text .ensures) in
-    refuses (s .out .now) (c .no-text3 .ensures) (too-long theRows (s .header) (s .fields) (s .signature .now) (s .slice .now) (length (s .out .now)) (c .before .before .before .before .before .before .before .before .before .before .if1 .left) _ a (c .before .if2 .taken))
+    let c7 = c .before .before .before .before .before .before .before in
+    let s = c7 .before .before .before .before .before .before .before .before .args in
+    let a = accepted theRows (c7 .v .given .0 .0) (s .header) (s .fields) (s .signature .now) (s .slice .now) (sym (c7 .before .before .header-version .ensures) ∙ ap versionSays (c7 .v .given .1)) (sym (c .before .before .before .n .given .1) ∙ c .before .before .before .before .before .room-of-text .ensures) in
+    refuses (s .out .now) (c .no-text3 .ensures) (too-long theRows (s .header) (s .fields) (s .signature .now) (s .slice .now) (length (s .out .now)) (c7 .before .before .before .if1 .left) _ a (c .before .if2 .taken))
 
 no-text-requires-4 : tie.Need-no-text-requires-4
 no-text-requires-4 c κs = search needs
 
 returns-5 : tie.Need-returns-5
 returns-5 c =
-    let s = c .before .before .before .before .before .before .before .before .before .before .before .before .before .before .before .before .args in
-    let a = accepted theRows (c .before .before .before .before .before .before .before .before .v .given .0 .0) (s .header) (s .fields) (s .signature .now) (s .slice .now) (sym (c .before .before .before .before .before .before .before .before .before .before .header-version .ensures) ∙ ap versionSays (c .before .before .before .before .before .before .before .before .v .given .1)) (sym (c .before .before .before .before .n .given .1) ∙ c .before .before .before .before .before .before .room-of-text .ensures) in
-    refuses (s .out .now) (c .no-text4 .ensures) (no-room theRows (s .header) (s .fields) (s .signature .now) (s .slice .now) (length (s .out .now)) (c .before .before .before .before .before .before .before .before .before .before .before .if1 .left) _ a (c .before .before .if2 .left) (c .before .if3 .taken))
+    let c8 = c .before .before .before .before .before .before .before .before in
+    let s = c8 .before .before .before .before .before .before .before .before .args in
+    let a = accepted theRows (c8 .v .given .0 .0) (s .header) (s .fields) (s .signature .now) (s .slice .now) (sym (c8 .before .before .header-version .ensures) ∙ ap versionSays (c8 .v .given .1)) (sym (c .before .before .before .before .n .given .1) ∙ c .before .before .before .before .before .before .room-of-text .ensures) in
+    refuses (s .out .now) (c .no-text4 .ensures) (no-room theRows (s .header) (s .fields) (s .signature .now) (s .slice .now) (length (s .out .now)) (c8 .before .before .before .if1 .left) _ a (c .before .before .if2 .left) (c .before .if3 .taken))
 
 write-parts-requires : tie.Need-write-parts-requires
 write-parts-requires c κs =
-    let s = c .before .before .before .before .before .before .before .before .before .before .before .before .before .before .before .before .args in
-    let a = accepted theRows (c .before .before .before .before .before .before .before .before .v .given .0 .0) (s .header) (s .fields) (s .signature .now) (s .slice .now) (sym (c .before .before .before .before .before .before .before .before .before .before .header-version .ensures) ∙ ap versionSays (c .before .before .before .before .before .before .before .before .v .given .1)) (sym (c .before .before .before .before .n .given .1) ∙ c .before .before .before .before .before .before .room-of-text .ensures) in
-    (c .before .before .before .before .before .before .before .before .before .before .before .if1 .left, a .inside, a .signed, omega (arith, a .long, c .before .if3 .left))
+    let c8 = c .before .before .before .before .before .before .before .before in
+    let s = c8 .before .before .before .before .before .before .before .before .args in
+    let a = accepted theRows (c8 .v .given .0 .0) (s .header) (s .fields) (s .signature .now) (s .slice .now) (sym (c8 .before .before .header-version .ensures) ∙ ap versionSays (c8 .v .given .1)) (sym (c .before .before .before .before .n .given .1) ∙ c .before .before .before .before .before .before .room-of-text .ensures) in
+    (c8 .before .before .before .if1 .left, a .inside, a .signed, omega (arith, a .long, c .before .if3 .left))
 
 same-length : tie.Need-same-length
 same-length c = search needs
 
 returns-6 : tie.Need-returns-6
 returns-6 c =
-    let s = c .before .before .before .before .before .before .before .before .before .before .before .before .before .before .before .before .before .before .before .args in
-    let a = accepted theRows (c .before .before .before .before .before .before .before .before .before .before .before .v .given .0 .0) (s .header) (s .fields) (s .signature .now) (s .slice .now) (sym (c .before .before .before .before .before .before .before .before .before .before .before .before .before .header-version .ensures) ∙ ap versionSays (c .before .before .before .before .before .before .before .before .before .before .before .v .given .1)) (sym (c .before .before .before .before .before .before .before .n .given .1) ∙ c .before .before .before .before .before .before .before .before .before .room-of-text .ensures) in
-    written-whole theRows (s .header) (s .fields) (s .signature .now) (s .slice .now) (length (s .out .now)) (c .before .before .before .before .before .before .before .before .before .before .before .before .before .before .if1 .left) _ a (c .before .before .before .before .before .if2 .left) (s .out .now) _ (c .before .before .before .before .if3 .left) (c .before .before .write-parts .ensures)
+    let c11 = c .before .before .before .before .before .before .before .before .before .before .before in
+    let s = c11 .before .before .before .before .before .before .before .before .args in
+    let a = accepted theRows (c11 .v .given .0 .0) (s .header) (s .fields) (s .signature .now) (s .slice .now) (sym (c11 .before .before .header-version .ensures) ∙ ap versionSays (c11 .v .given .1)) (sym (c .before .before .before .before .before .before .before .n .given .1) ∙ c .before .before .before .before .before .before .before .before .before .room-of-text .ensures) in
+    written-whole theRows (s .header) (s .fields) (s .signature .now) (s .slice .now) (length (s .out .now)) (c11 .before .before .before .if1 .left) _ a (c .before .before .before .before .before .if2 .left) (s .out .now) _ (c .before .before .before .before .if3 .left) (c .before .before .write-parts .ensures)
 
 pub write-text-spec : {M : Type 1} → statement M
 write-text-spec =

@@ -57,16 +57,18 @@ same-length c = c .before .before .before .before .put-move .kept .1 .1 .0 ∙ c
 
 returns : tie.Need-returns Inv-loop μ-loop
 returns c =
-    let s = c .before .before .before .before .before .before .before .before .before .before .before .before in
-    subst (λ (a : After). Onward (s .args .padded) (s .args .text .now) (s .args .n) (s .args .symbol .now) (c .before .before .before .before .put-move .last .1 .1 .0) (c .before .before .before .before .before .before .before .before .loop .done) a) (c .enum-told .given .1) (goes-on (c .before .before .before .before))
+    let c4 = c .before .before .before .before in
+    let s = c4 .before .before .before .before .before .before .before .before in
+    subst (λ (a : After). Onward (s .args .padded) (s .args .text .now) (s .args .n) (s .args .symbol .now) (c4 .put-move .last .1 .1 .0) (c4 .before .before .before .before .loop .done) a) (c .enum-told .given .1) (goes-on (c4))
 
 further : (c : tie.After-known-told Inv-loop μ-loop) →
     let s = c .before .before .before .before .before .before .before .before .before .before .before .before .before in
     let to = c .before .after .given .0 in
     Writing (s .args .padded) (s .args .text .now) (s .args .n) (s .args .symbol .now) (c .before .before .before .before .before .put-move .last .1 .1 .0) (to .0) (to .1 .0) (to .1 .1 .0) × (c .before .before .before .before .before .before .before .before .before .loop .done < to .1 .1 .0)
 further c =
-    let s = c .before .before .before .before .before .before .before .before .before .before .before .before .before in
-    subst (λ (a : After). Onward (s .args .padded) (s .args .text .now) (s .args .n) (s .args .symbol .now) (c .before .before .before .before .before .put-move .last .1 .1 .0) (c .before .before .before .before .before .before .before .before .before .loop .done) a) (c .before .after .given .1) (goes-on (c .before .before .before .before .before))
+    let c5 = c .before .before .before .before .before in
+    let s = c5 .before .before .before .before .before .before .before .before in
+    subst (λ (a : After). Onward (s .args .padded) (s .args .text .now) (s .args .n) (s .args .symbol .now) (c5 .put-move .last .1 .1 .0) (c5 .before .before .before .before .loop .done) a) (c .before .after .given .1) (goes-on (c5))
 
 loop-less : tie.Need-loop-less Inv-loop μ-loop
 loop-less c =

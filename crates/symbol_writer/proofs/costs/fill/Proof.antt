@@ -72,12 +72,13 @@ loop-less c = omega arith
 
 loop-again : tie.Need-loop-again Inv-loop μ-loop
 loop-again c =
-    let s = c .before .before .before .before .before .before .before .before .before .before .before .before .before .before .before in
-    let l = c .before .before .before .before .before .before .before .loop in
+    let c7 = c .before .before .before .before .before .before .before in
+    let s = c7 .before .before .before .before .before .before .before .before in
+    let l = c7 .loop in
     let i = l .i - 1 in
     let e : i + 1 ≡ l .i = omega arith in
     let k = costs-again (s .args .padded) (s .args .text .now) i (l .k) _ (omega arith) (rw e (l .inv .1)) (c .before .before .before .before .costs-before .ensures) in
-    (omega arith, k, rw (c .before .before .put-row2 .ensures) (filled-more (s .args .padded) (s .args .text .now) _ (l .work) i _ (omega arith) (omega (arith, as-start (c .before .before .before .before .before .before .before))) k (rw e (l .inv .2))))
+    (omega arith, k, rw (c .before .before .put-row2 .ensures) (filled-more (s .args .padded) (s .args .text .now) _ (l .work) i _ (omega arith) (omega (arith, as-start (c7))) k (rw e (l .inv .2))))
 
 same-length : tie.Need-same-length Inv-loop μ-loop
 same-length c = as-long (c .before)

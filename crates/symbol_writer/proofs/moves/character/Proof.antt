@@ -20,7 +20,9 @@ add-if2 : tie.Need-add-if2
 add-if2 c = search needs
 
 add-t13 : tie.Need-add-t13
-add-t13 c = omega (arith, c .before .before .before .before .before .pre .chars (c .before .before .before .before .before .args .i))
+add-t13 c =
+    let c5 = c .before .before .before .before .before in
+    omega (arith, c5 .pre .chars (c5 .args .i))
 
 add-t15 : tie.Need-add-t15
 add-t15 c = search needs
@@ -64,7 +66,9 @@ returns-3 c =
     }
 
 add-t11 : tie.Need-add-t11
-add-t11 c = omega (arith, c .before .before .before .before .before .before .before .before .before .pre .chars (c .before .before .before .before .before .before .before .before .before .args .i))
+add-t11 c =
+    let c9 = c .before .before .before .before .before .before .before .before .before in
+    omega (arith, c9 .pre .chars (c9 .args .i))
 
 add-t8 : tie.Need-add-t8
 add-t8 c = search needs

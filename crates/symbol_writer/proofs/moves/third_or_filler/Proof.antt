@@ -13,7 +13,9 @@ shared-slice-read-place-of : tie.Need-shared-slice-read-place-of
 shared-slice-read-place-of c = search needs
 
 place-of-requires : tie.Need-place-of-requires
-place-of-requires c κs = c .before .before .before .before .pre .chars (c .before .before .before .before .args .i)
+place-of-requires c κs =
+    let c4 = c .before .before .before .before in
+    c4 .pre .chars (c4 .args .i)
 
 column-behind-requires : tie.Need-column-behind-requires
 column-behind-requires c κs = search needs
@@ -33,8 +35,9 @@ in-basic-requires c κs =
 
 returns-2 : tie.Need-returns-2
 returns-2 c =
-    let s = c .before .before .before .before .before .before .before .before .before in
-    third-taken (s .args .text .now) (s .args .work .now) (s .args .i) (omega (arith, s .pre .place, c .before .before .before .before .before .before .if1 .left)) (s .args .n) _ _ _ (c .before .before .before .before .place-of .ensures .0) (c .before .before .before .column-behind .ensures) (c .before .before .fits2 .ensures) (s .pre .chars (s .args .i)) _ _ (c .before .before .before .before .place-of .ensures .1) (c .before .if2 .taken) (c .in-basic .ensures)
+    let c4 = c .before .before .before .before in
+    let s = c4 .before .before .before .before .before in
+    third-taken (s .args .text .now) (s .args .work .now) (s .args .i) (omega (arith, s .pre .place, c4 .before .before .if1 .left)) (s .args .n) _ _ _ (c4 .place-of .ensures .0) (c .before .before .before .column-behind .ensures) (c .before .before .fits2 .ensures) (s .pre .chars (s .args .i)) _ _ (c4 .place-of .ensures .1) (c .before .if2 .taken) (c .in-basic .ensures)
 
 returns-3 : tie.Need-returns-3
 returns-3 c =
