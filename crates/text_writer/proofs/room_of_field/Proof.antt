@@ -1,9 +1,11 @@
 -- `room_of_field` meets its contract: the tests are those of `writeField`, in its order. Assumes nothing.
 use Prim.Native.Nat.{_+_, _≤_}
-use mathlib.Core.Path.{sym, ap, _∙_}
+use mathlib.Core.Path.{_≡_, sym, ap, _∙_}
 use native.Mathlib.Omega.{arith}
 use lib.ListN.{length}
 use Rattle.refusal.specs.Among.{among}
+use Rattle.refusal.specs.Answers.{good}
+use Rattle.dictionary.specs.Dictionary.{rowAt}
 use Rattle.dictionary.specs.Rows.{rows as theRows}
 use Rattle.text_writer.specs.Writing.{roomOf, writeData}
 use Rattle.text_writer.proofs.Records.{refused-below, row-is, part-is, field-nowhere, field-outside, field-repeated, field-data}
@@ -31,6 +33,10 @@ returns c =
     let s = c .before .before .before .before .before .before .before .args in
     (λ before e. c .refuse .ensures ∙ field-nowhere theRows (s .slice .now) before (s .i) (s .f) (row-is (s .f .row) _ (s .i) (c .before .before .before .before .row-number .ensures) (c .before .before .before .row-at .ensures) (c .before .enum-told .given .1)), refused-below _ (c .refuse .ensures))
 
+-- the row that the record names
+row : (c : tie.After-found) → let s = c .before .before .before .before .before .before .args in rowAt theRows (s .f .row) (s .i) ≡ good (c .found .given .0 .0)
+row c = row-is _ _ _ (c .before .before .before .row-number .ensures) (c .before .before .row-at .ensures) (c .found .given .1)
+
 wide-requires : tie.Need-wide-requires
 wide-requires c κs = search needs
 
@@ -45,9 +51,11 @@ refuse-requires-2 c κs = search needs
 
 returns-2 : tie.Need-returns-2
 returns-2 c =
-    let s = c .before .before .before .before .before .before .before .before .before .before .before .args in
-    let r = row-is (s .f .row) _ (s .i) (c .before .before .before .before .before .before .before .before .row-number .ensures) (c .before .before .before .before .before .before .before .row-at .ensures) (c .before .before .before .before .before .found .given .1) in
-    (λ before e. c .refuse2 .ensures ∙ field-outside theRows (s .slice .now) before (s .i) (s .f) _ r (omega (arith, c .before .if1 .taken, c .before .before .wide2 .ensures .0, c .before .before .before .wide .ensures .0)), refused-below _ (c .refuse2 .ensures))
+    let f = c .before .before .before .before .before in
+    let s = f .before .before .before .before .before .before .args in (
+      λ before e. c .refuse2 .ensures ∙ field-outside theRows (s .slice .now) before (s .i) (s .f) _ (row f) (omega (arith, c .before .if1 .taken, c .before .before .wide2 .ensures .0, c .before .before .before .wide .ensures .0)),
+      refused-below _ (c .refuse2 .ensures),
+    )
 
 is-taken-requires : tie.Need-is-taken-requires
 is-taken-requires c κs = search needs
@@ -57,9 +65,10 @@ refuse-requires-3 c κs = search needs
 
 returns-3 : tie.Need-returns-3
 returns-3 c =
-    let s = c .before .before .before .before .before .before .before .before .before .before .before .before .before .args in
-    let r = row-is (s .f .row) _ (s .i) (c .before .before .before .before .before .before .before .before .before .before .row-number .ensures) (c .before .before .before .before .before .before .before .before .before .row-at .ensures) (c .before .before .before .before .before .before .before .found .given .1) in (
-      λ before e. c .refuse3 .ensures ∙ field-repeated theRows (s .slice .now) before (s .i) (s .f) _ r (omega (arith, c .before .before .before .if1 .left, c .before .before .before .before .wide2 .ensures .0, c .before .before .before .before .before .wide .ensures .0))
+    let w = c .before .before .before .before in
+    let f = w .before .before .before in
+    let s = f .before .before .before .before .before .before .args in (
+      λ before e. c .refuse3 .ensures ∙ field-repeated theRows (s .slice .now) before (s .i) (s .f) _ (row f) (omega (arith, c .before .before .before .if1 .left, w .wide2 .ensures .0, w .before .wide .ensures .0))
           (ap (among (s .f .row)) e ∙ sym (c .before .before .is-taken .ensures) ∙ c .before .if2 .taken),
       refused-below _ (c .refuse3 .ensures),
     )
@@ -78,15 +87,14 @@ room-of-data-requires c κs = search needs
 
 returns-4 : tie.Need-returns-4
 returns-4 c =
-    let c5 = c .before .before .before .before .before in
-    let c6 = c5 .before in
-    let c8 = c6 .before .before in
-    let s = c8 .before .before .before .before .before .before .args in
-    let r = row-is (s .f .row) _ (s .i) (c8 .before .before .before .row-number .ensures) (c8 .before .before .row-at .ensures) (c8 .found .given .1) in
-    let h : s .f .start + s .f .length ≤ length (s .slice .now) = omega (arith, c .before .before .before .before .if1 .left, c5 .wide2 .ensures .0, c6 .wide .ensures .0) in (
+    let w = c .before .before .before .before .before in
+    let f = w .before .before .before in
+    let s = f .before .before .before .before .before .before .args in
+    let r = f .found .given .0 .0 in
+    let h : s .f .start + s .f .length ≤ length (s .slice .now) = omega (arith, c .before .before .before .before .if1 .left, w .wide2 .ensures .0, w .before .wide .ensures .0) in (
       λ before e. c .room-of-data .ensures .0
-          ∙ ap (λ l. roomOf (writeData (c8 .found .given .0 .0) l (s .f .cut) (s .i))) (part-is (s .slice .now) (c6 .wide .ensures .0) (c5 .wide2 .ensures .0))
-          ∙ ap roomOf (field-data theRows (s .slice .now) before (s .i) (s .f) _ r h
+          ∙ ap (λ l. roomOf (writeData r l (s .f .cut) (s .i))) (part-is (s .slice .now) (w .before .wide .ensures .0) (w .wide2 .ensures .0))
+          ∙ ap roomOf (field-data theRows (s .slice .now) before (s .i) (s .f) r (row f) h
           (ap (among (s .f .row)) e ∙ sym (c .before .before .before .is-taken .ensures) ∙ c .before .before .if2 .left)),
       c .room-of-data .ensures .1,
     )

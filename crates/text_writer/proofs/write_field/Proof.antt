@@ -1,12 +1,13 @@
 -- `write_field` meets its contract: the row that the record names spells its data. Assumes nothing.
-use Prim.Native.Nat.{ℕ}
+use Prim.Native.Nat.{ℕ, _+_, _-_}
 use mathlib.Core.List.{List}
-use mathlib.Core.Path.{sym, ap, _∙_}
+use mathlib.Core.Path.{_≡_, sym, ap, _∙_}
 use native.Mathlib.Omega.{arith}
-use lib.ListN.{length}
+use lib.ListN.{length, take, drop}
 use Rattle.refusal.specs.Over.{over}
 use Rattle.dictionary.specs.Rows.{rows as theRows}
 use Rattle.text.specs.Text.{spelled}
+use Rattle.text_writer.specs.Writing.{fieldChars}
 use Rattle.text_writer.proofs.Records.{row-is, part-is, data-length}
 use Rattle.text_writer.proofs.Fills.{chars-none, chars-row}
 use borrow.Author.Needs.{needs}
@@ -31,6 +32,17 @@ returns c =
     let e = chars-none theRows (s .slice .now) (s .f) (row-is (s .f .row) _ 0 (c .before .before .before .row-number .ensures) (c .before .before .row-at .ensures) (c .enum-told .given .1)) in
     (ap length (sym e), ap (λ (x : List ℕ). over x (s .out .now)) (sym e))
 
+-- the data, as the part of the slice that is lent on, spelled by the row that the record names
+spells : (c : tie.After-wide2) →
+    let f = c .before .before .before in
+    let s = f .before .before .before .before .before .before .args in
+    spelled (f .found .given .0 .0) (take ((c .before .wide .result + c .wide2 .result) - c .before .wide .result) (drop (c .before .wide .result) (s .slice .now))) (s .f .cut) ≡ fieldChars theRows (s .slice .now) (s .f)
+spells c =
+    let f = c .before .before .before in
+    let s = f .before .before .before .before .before .before .args in
+    ap (λ (l : List ℕ). spelled (f .found .given .0 .0) l (s .f .cut)) (part-is (s .slice .now) (c .before .wide .ensures .0) (c .wide2 .ensures .0)) ∙
+    sym (chars-row theRows (s .slice .now) (s .f) (row-is (s .f .row) _ 0 (f .before .before .before .row-number .ensures) (f .before .before .row-at .ensures) (f .found .given .1)))
+
 wide-requires : tie.Need-wide-requires
 wide-requires c κs = search needs
 
@@ -51,14 +63,12 @@ part-write-spelled-end c = omega (arith, c .wide2 .ensures, c .before .wide .ens
 
 write-spelled-requires : tie.Need-write-spelled-requires
 write-spelled-requires c κs =
-    let c5 = c .before .before .before .before .before in
-    let c11 = c5 .before .before .before .before .before .before in
-    let s = c11 .args in
-    let r = c5 .found .given .0 .0 in
-    let p = part-is (s .slice .now) (c .before .before .before .wide .ensures .0) (c .before .before .wide2 .ensures .0) in
-    let e = chars-row theRows (s .slice .now) (s .f) (row-is (s .f .row) _ 0 (c5 .before .before .before .row-number .ensures) (c5 .before .before .row-at .ensures) (c5 .found .given .1)) in (
-      omega (arith, ap length p, data-length (s .slice .now) (s .f) (c11 .pre .1), c .before .before .wide2 .ensures),
-      omega (arith, ap (λ (l : List ℕ). length (spelled r l (s .f .cut))) p, ap length e, c11 .pre .2),
+    let w = c .before .before in
+    let start = w .before .before .before .before .before .before .before .before .before in
+    let s = start .args in
+    let p = part-is (s .slice .now) (w .before .wide .ensures .0) (w .wide2 .ensures .0) in (
+      omega (arith, ap length p, data-length (s .slice .now) (s .f) (start .pre .1), w .wide2 .ensures),
+      omega (arith, ap length (spells w), start .pre .2),
     )
 
 same-length : tie.Need-same-length
@@ -66,12 +76,9 @@ same-length c = search needs
 
 returns-2 : tie.Need-returns-2
 returns-2 c =
-    let c8 = c .before .before .before .before .before .before .before .before in
-    let s = c8 .before .before .before .before .before .before .args in
-    let r = c8 .found .given .0 .0 in
-    let p = part-is (s .slice .now) (c .before .before .before .before .before .before .wide .ensures .0) (c .before .before .before .before .before .wide2 .ensures .0) in
-    let e = ap (λ (l : List ℕ). spelled r l (s .f .cut)) p ∙ sym (chars-row theRows (s .slice .now) (s .f) (row-is (s .f .row) _ 0 (c8 .before .before .before .row-number .ensures) (c8 .before .before .row-at .ensures) (c8 .found .given .1))) in
-    (c .before .before .write-spelled .ensures .0 ∙ ap length e, c .before .before .write-spelled .ensures .1 ∙ ap (λ (x : List ℕ). over x (s .out .now)) e)
+    let w = c .before .before .before .before .before in
+    let s = w .before .before .before .before .before .before .before .before .before .args in
+    (c .before .before .write-spelled .ensures .0 ∙ ap length (spells w), c .before .before .write-spelled .ensures .1 ∙ ap (λ (x : List ℕ). over x (s .out .now)) (spells w))
 
 pub write-field-spec : {M : Type 1} → statement M
 write-field-spec =
