@@ -6,7 +6,7 @@ use mathlib.Core.List.{List}
 use mathlib.Core.Path.{_≡_}
 use Rattle.dictionary.specs.Dictionary.{Dictionary}
 use Rattle.dictionary.specs.declared.Field.{Field}
-use Rattle.text.specs.declared.Header.{Header}
+use Rattle.header.specs.declared.Header.{Header}
 use Rattle.text.specs.Text.{Message, writeText}
 use Rattle.text_writer.specs.Writing.{writeFirst}
 use Rattle.text_writer.proofs.Texts.{of-lent}

@@ -18,7 +18,7 @@ use Rattle.refusal.specs.Among.{among}
 use Rattle.dictionary.specs.Dictionary.{Dictionary, find, rowsOf}
 use Rattle.dictionary.specs.Rows.{rows}
 use Rattle.dictionary.specs.declared.Field.{Field}
-use Rattle.text.specs.Header.{size, readHeader}
+use Rattle.header.specs.Header.{size, readHeader}
 use Rattle.text.specs.Signature.{readSignature}
 use Rattle.text.specs.Zone.{readData, zone}
 use Rattle.text.specs.Text.{atMark, Reading, reading, readText}

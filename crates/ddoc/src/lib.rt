@@ -14,10 +14,10 @@ ghost use Rattle.ddoc.specs.Answers.{readingAnswer, Writes, conformityAn
 use conformity::Conformity;
 use dictionary::Field;
 use dictionary::Fields;
+use header::Header;
 use refusal::Refusal;
 use symbol_reader::SymbolRead;
 use symbol_writer::SymbolWritten;
-use text::Header;
 use text_reader::Outcome;
 use text_reader::TextRead;
 use text_writer::TextWritten;
@@ -116,7 +116,7 @@ pub struct Message {
     pub fields: usize,
     pub signature_length: usize,
     pub signed_length: usize,
-    pub header: text::Header,
+    pub header: header::Header,
     pub signature: [u8; 132],
 }
 

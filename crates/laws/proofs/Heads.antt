@@ -15,10 +15,10 @@ use Rattle.refusal.specs.Numbers.{header-too-short, not-dc, wrong-header-charac
 use Rattle.refusal.proofs.Tests.{by-test}
 use Rattle.refusal.proofs.Binds.{never, same-good, by-bind, by-check, by-seq, by-and, by-or}
 use Rattle.dictionary.specs.Dictionary.{between, upper, digit}
-use Rattle.text.specs.declared.Version.{Version}
-use Rattle.text.specs.declared.Version.the-variants.{V02, V03, V04}
-use Rattle.text.specs.declared.Header.{Header}
-use Rattle.text.specs.Header.{size, letter, hex, versionOf, part, hexValue, hexChar, number, digits, perimeter01, perimeterIn, countryIn, versionChars, parts, Headed, known, readHeader, perimeterOf, countryOf, headerChars, writeHeader, Shaped, kept, keptPerimeter, keptCountry}
+use Rattle.header.specs.declared.Version.{Version}
+use Rattle.header.specs.declared.Version.the-variants.{V02, V03, V04}
+use Rattle.header.specs.declared.Header.{Header}
+use Rattle.header.specs.Header.{size, letter, hex, versionOf, part, hexValue, hexChar, number, digits, perimeter01, perimeterIn, countryIn, versionChars, parts, Headed, known, readHeader, perimeterOf, countryOf, headerChars, writeHeader, Shaped, kept, keptPerimeter, keptCountry}
 
 -- the characters of a part stand in the text
 pub part-is : (fs : List (ℕ → Bool)) (p : ℕ) (t x : List ℕ) → part fs p t ≡ good x → p + length fs ≤ length t → (drop p t ≡ x ++ drop (p + length fs) t) × (length x ≡ length fs)

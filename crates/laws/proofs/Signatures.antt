@@ -14,7 +14,7 @@ use Rattle.refusal.specs.Numbers.{signature-length, spare-bits}
 use Rattle.refusal.proofs.Binds.{same-good, by-check, by-seq, by-or}
 use Rattle.base32.specs.Base32.{inAlphabet, valueOf, charOf, values, spareBits}
 use Rattle.base32.proofs.RoundTrip.{Below, Fits, values-bytes, bytes-values, spare-values, values-below, length-values, length-bytes, char-value, value-char}
-use Rattle.text.specs.declared.Version.{Version}
+use Rattle.header.specs.declared.Version.{Version}
 use Rattle.text.specs.Signature.{lengthOfBytes, lengthOfChars, wrongNumber, signatureChars, readSignature, writeSignature}
 
 -- the characters of a signature

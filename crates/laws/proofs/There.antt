@@ -11,7 +11,7 @@ use Rattle.codeword.specs.Best.{Best}
 use Rattle.optimum.proofs.Round.{Says, best-read}
 use Rattle.dictionary.specs.Rows.{rows}
 use Rattle.dictionary.proofs.Rows.{rows-distinct, rows-plain}
-use Rattle.text.specs.Header.{Shaped}
+use Rattle.header.specs.Header.{Shaped}
 use Rattle.text.specs.Text.{Message, Reading, readText, writeText, Admissible, SameMessage}
 use Rattle.base32.proofs.RoundTrip.{Below}
 use Rattle.laws.proofs.Whole.{read-covers, write-back}

@@ -20,11 +20,11 @@ use Rattle.dictionary.specs.Dictionary.{Dictionary, allowed, full, distinct, pl
 use Rattle.dictionary.specs.declared.Row.{Row}
 use Rattle.dictionary.specs.declared.Field.{Field}
 use Rattle.base32.proofs.RoundTrip.{Below}
-use Rattle.text.specs.declared.Version.{Version}
-use Rattle.text.specs.declared.Version.the-variants.{V02, V03, V04}
-use Rattle.text.specs.declared.Header.{Header}
+use Rattle.header.specs.declared.Version.{Version}
+use Rattle.header.specs.declared.Version.the-variants.{V02, V03, V04}
+use Rattle.header.specs.declared.Header.{Header}
 use Rattle.text.specs.Zone.{zone}
-use Rattle.text.specs.Header.{size, versionOf, readHeader, headerChars, writeHeader, Shaped, kept, keptBy, theParts}
+use Rattle.header.specs.Header.{size, versionOf, readHeader, headerChars, writeHeader, Shaped, kept, keptBy, theParts}
 use Rattle.text.specs.Signature.{readSignature, writeSignature}
 use Rattle.text.specs.Text.{Message, Halves, further, atMark, Reading, reading, readText, inTurn, ending, dataOf, writeField, writeZone, writing, writeText, Admissible, SameMessage}
 use Rattle.laws.proofs.Rows.{row-plain, allowed-plain}

@@ -3,10 +3,21 @@ ghost use mathlib.Core.Path.{_≡_};
 ghost use mathlib.Core.List.{_++_};
 ghost use Prim.Native.Nat.{_≤_};
 ghost use lib.ListN.{length, take, drop};
+ghost use Rattle.refusal.specs.Numbers.{refusal};
 
 pub struct Refusal {
     pub number: u8,
     pub place: usize,
+}
+
+// No refusal: 0 is the number of none.
+pub fn accepted() -> Refusal
+    ensures { λ r. ⌜ r ≡ refusal 0 0 ⌝ }
+{
+    Refusal {
+        number: 0,
+        place: 0,
+    }
 }
 
 pub const NO_CAPACITY: u8 = 1;

@@ -5,9 +5,9 @@ ghost use lib.ListN.{length};
 use conformity::Conformity;
 use dictionary::Field;
 use dictionary::Fields;
+use header::Header;
 use symbol_reader::SymbolRead;
 use symbol_writer::SymbolWritten;
-use text::Header;
 use text_reader::Outcome;
 use text_reader::TextRead;
 

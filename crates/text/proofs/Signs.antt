@@ -9,10 +9,11 @@ use lib.Dec.{eqb}
 use lib.ListN.{length, getD}
 use borrow.Author.Tests.{eqb-true, eq-eqb, ne-eqb}
 use Rattle.refusal.specs.Answers.{good, refused}
-use Rattle.refusal.specs.Numbers.{signature-length, spare-bits}
+use Rattle.refusal.specs.Numbers.{signature-length, signature-character, spare-bits, annex}
 use Rattle.refusal.proofs.Binds.{by-or}
 use Rattle.base32.specs.Base32.{inAlphabet, leading, decoded, spareBits}
-use Rattle.text.specs.declared.Version.{Version}
+use Rattle.header.specs.declared.Version.{Version}
+use Rattle.header.specs.declared.Version.the-variants.{V04}
 use Rattle.text.specs.Signature.{lengthOfChars, wrongNumber, signatureChars, readSignature}
 
 leading-most : (l : List ℕ) → leading l ≤ length l
@@ -79,3 +80,10 @@ length-most n e = by-or (eqb n 103 || eqb n 154) (eqb n 212) e
 
 pub length-none : (n : ℕ) → (n ≡ 103 → ⊥) → (n ≡ 154 → ⊥) → (n ≡ 212 → ⊥) → false ≡ lengthOfChars n
 length-none n a b c = rw (ne-eqb n 103 a, ne-eqb n 154 b, ne-eqb n 212 c)
+
+-- the number of a wrong character in version 04
+pub annex-number : (c : ℕ) → c ≡ 29 → annex ≡ wrongNumber V04 c
+annex-number c e = rw (eq-eqb c 29 e)
+
+pub other-number : (c : ℕ) → (c ≡ 29 → ⊥) → signature-character ≡ wrongNumber V04 c
+other-number c n = rw (ne-eqb c 29 n)

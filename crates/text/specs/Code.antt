@@ -1,89 +1,15 @@
 -- What the answers of the code's functions say, by the definitions.
-use Prim.Native.Nat.{ℕ, suc, _≤_, _<_}
-use mathlib.Core.Bool.{Bool, true, false, _&&_}
+use Prim.Native.Nat.{ℕ, suc}
 use mathlib.Core.List.{List}
-use mathlib.Core.Path.{_≡_}
-use lib.Dec.{ltb, eqb}
-use lib.ListN.{length, getD, drop, replicate}
+use lib.ListN.{length, drop, replicate}
 use lib.Seq.{slice}
-use Rattle.refusal.specs.Pick.{pick}
-use Rattle.refusal.specs.Answers.{Answer, good, refused, _>>_}
-use Rattle.refusal.specs.Numbers.{unknown-version, wrong-perimeter, no-mark, refusal}
+use Rattle.refusal.specs.Answers.{Answer, good, refused}
+use Rattle.refusal.specs.Numbers.{no-mark, refusal}
 use Rattle.refusal.specs.Over.{over}
-use Rattle.refusal.specs.Chars.{charsAt}
-use Rattle.refusal.specs.declared.Refusal.{Refusal}
-use Rattle.dictionary.specs.Dictionary.{upper}
-use Rattle.text.specs.declared.Version.{Version}
-use Rattle.text.specs.declared.Version.the-variants.{V02, V03, V04}
-use Rattle.text.specs.declared.VersionRead.{VersionRead}
-use Rattle.text.specs.declared.VersionRead.the-variants.{Known, Unknown}
-use Rattle.text.specs.declared.Header.{Header}
-use Rattle.text.specs.declared.HeaderRead.{HeaderRead}
 use Rattle.text.specs.declared.Mark.{Mark}
 use Rattle.text.specs.declared.Mark.the-variants.{Found, Missing}
 use Rattle.text.specs.declared.SignatureRead.{SignatureRead}
-use Rattle.text.specs.Header.{letter, hex, blank, number, versionChars, perimeterIn, countryIn, Headed}
 use Rattle.text.specs.Text.{Halves}
-
--- no refusal has the number 0
-abbrev pub verdict : {A : Type 0} → Answer A → Refusal
-verdict (good a) = refusal 0 0
-verdict (refused k p) = refusal k p
-
--- may the character c stand at the place p of a header?
-abbrev pub inPlace : (p c : ℕ) → Bool
-inPlace p c = pick (ltb p 6) (upper c) (pick (ltb p 12) (letter c) (pick (ltb p 20) (hex c) (pick (ltb p 22) (letter c) (upper c))))
-
--- every character from one place up to another may stand at its place
-abbrev pub Right : List ℕ → (from to : ℕ) → Type 0
-Right t from to = (k : ℕ) → from ≤ k → k < to → inPlace k (getD t k 0) ≡ true
-
--- r is the first place whose character may not, or the end
-pub record FirstWrong (t : List ℕ) (from to r : ℕ) : Type 0 where
-  pub low : from ≤ r
-  pub high : r ≤ to
-  pub before : Right t from r
-  pub here : r < to → inPlace r (getD t r 0) ≡ false
-
-abbrev pub perimeterVerdict : List ℕ → Refusal
-perimeterVerdict t = pick (eqb (getD t 22 0) 48 && eqb (getD t 23 0) 49) (refusal 0 0) (refusal wrong-perimeter 22)
-
-abbrev pub countryVerdict : List ℕ → Refusal
-countryVerdict t = verdict (countryIn V04 t)
-
--- of two refusals the first that is one
-abbrev pub firstOf : Refusal → Refusal → Refusal
-firstOf a b = pick (eqb (a .number) 0) b a
-
--- perimeter and country, where the version has them
-abbrev pub tailVerdict : Version → List ℕ → Refusal
-tailVerdict v t = verdict (perimeterIn v t >> countryIn v t)
-
-abbrev pub versionSays : VersionRead → Answer Version
-versionSays (Known v) = good v
-versionSays Unknown = refused unknown-version 2
-
--- the parts as they stand in a text
-abbrev pub perimeterAt : Version → List ℕ → List ℕ
-perimeterAt V02 t = blank
-perimeterAt V03 t = charsAt 2 22 t
-perimeterAt V04 t = charsAt 2 22 t
-
-abbrev pub countryAt : Version → List ℕ → List ℕ
-countryAt V02 t = blank
-countryAt V03 t = blank
-countryAt V04 t = charsAt 2 24 t
-
-abbrev pub partsAt : Version → List ℕ → Header
-partsAt v t = record { version = versionChars v; authority = charsAt 4 4 t; certificate = charsAt 4 8 t; issue = number (charsAt 4 12 t); signing = number (charsAt 4 16 t); doctype = charsAt 2 20 t; perimeter = perimeterAt v t; country = countryAt v t }
-
--- a refused header is nothing but zeros
-abbrev pub noHeader : Header
-noHeader = record { version = blank; authority = replicate 4 0; certificate = replicate 4 0; issue = 0; signing = 0; doctype = blank; perimeter = blank; country = blank }
-
-abbrev pub headerAnswer : Answer Headed → HeaderRead
-headerAnswer (good x) = record { refusal = refusal 0 0; version = x .version; header = x .header }
-headerAnswer (refused k p) = record { refusal = refusal k p; version = V02; header = noHeader }
 
 abbrev pub markSays : Mark → (from : ℕ) → List ℕ → Answer Halves
 markSays (Found m) from t = good (record { before = slice from m t; behind = drop (suc m) t })

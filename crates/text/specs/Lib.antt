@@ -1,4 +1,3 @@
-pub mod Header
 pub mod Zone
 pub mod Signature
 pub mod Text

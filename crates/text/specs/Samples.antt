@@ -12,9 +12,9 @@ use Rattle.dictionary.specs.Dictionary.{Dictionary, allowed, find}
 use Rattle.dictionary.specs.declared.Kind.the-variants.{Numeric, Alphabetic, Alphanumeric}
 use Rattle.dictionary.specs.declared.Limit.the-variants.{UpTo}
 use Rattle.dictionary.specs.declared.Field.{Field}
-use Rattle.text.specs.declared.Version.the-variants.{V02}
+use Rattle.header.specs.declared.Version.the-variants.{V02}
 use Rattle.text.specs.Zone.{does, readData, zone}
-use Rattle.text.specs.Header.{part, number, parts, known, readHeader}
+use Rattle.header.specs.Header.{part, number, parts, known, readHeader}
 
 -- 6Q, 6W, 6X, 6Y, 6Z
 abbrev pub five : Dictionary

@@ -8,8 +8,8 @@ use Rattle.refusal.specs.Pick.{pick}
 use Rattle.refusal.specs.Answers.{Answer, good, _>>=_, _>>_, check}
 use Rattle.refusal.specs.Numbers.{signature-length, signature-character, spare-bits, annex}
 use Rattle.base32.specs.Base32.{inAlphabet, decoded, spareBits, encoded}
-use Rattle.text.specs.declared.Version.{Version}
-use Rattle.text.specs.declared.Version.the-variants.{V02, V03, V04}
+use Rattle.header.specs.declared.Version.{Version}
+use Rattle.header.specs.declared.Version.the-variants.{V02, V03, V04}
 
 -- 64, 96 or 132 bytes: 103, 154 or 212 characters
 abbrev pub lengthOfBytes : ℕ → Bool

@@ -15,9 +15,9 @@ use Rattle.dictionary.specs.declared.Limit.{Limit}
 use Rattle.dictionary.specs.declared.Limit.the-variants.{UpTo, NoLimit}
 use Rattle.dictionary.specs.declared.Row.{Row}
 use Rattle.dictionary.specs.declared.Field.{Field}
-use Rattle.text.specs.declared.Header.{Header}
+use Rattle.header.specs.declared.Header.{Header}
 use Rattle.text.specs.Zone.{zone}
-use Rattle.text.specs.Header.{size, readHeader, writeHeader, theParts}
+use Rattle.header.specs.Header.{size, readHeader, writeHeader, theParts}
 use Rattle.text.specs.Signature.{readSignature, writeSignature}
 
 -- a message: its records point into the slice that stands beside it

@@ -8,10 +8,11 @@ use Rattle.refusal.specs.Answers.{Answer, good, refused}
 use Rattle.refusal.specs.Numbers.{refusal}
 use Rattle.refusal.specs.declared.Refusal.{Refusal}
 use Rattle.dictionary.specs.declared.Field.{Field}
-use Rattle.text.specs.declared.HeaderRead.{HeaderRead}
+use Rattle.header.specs.declared.HeaderRead.{HeaderRead}
 use Rattle.text.specs.declared.SignatureRead.{SignatureRead}
-use Rattle.text.specs.Header.{Headed}
-use Rattle.text.specs.Code.{headerAnswer, signatureAnswer}
+use Rattle.header.specs.Header.{Headed}
+use Rattle.header.specs.Code.{headerAnswer}
+use Rattle.text.specs.Code.{signatureAnswer}
 use Rattle.text_reader.specs.Answers.{fieldsOf, zoneAnswer}
 use Rattle.text_reader.specs.declared.Outcome.the-variants.{Accepted, Refused}
 use Rattle.text_reader.specs.declared.ZoneRead.{ZoneRead}

@@ -13,7 +13,7 @@ use Rattle.refusal.specs.Pick.{pick}
 use Rattle.refusal.specs.Answers.{Answer, good, refused}
 use Rattle.refusal.specs.Numbers.{header-too-short, not-dc}
 use Rattle.refusal.proofs.Binds.{never, same-good, by-bind, by-check}
-use Rattle.text.specs.Header.{Headed, size, versionOf, parts, readHeader}
+use Rattle.header.specs.Header.{Headed, size, versionOf, parts, readHeader}
 use Rattle.text.specs.Text.{Halves, further, atMark}
 
 -- a header that was read stands within the text

@@ -14,9 +14,9 @@ use Rattle.refusal.specs.Numbers.{header-too-short, not-dc, unknown-version, wr
 use Rattle.refusal.proofs.Binds.{never}
 use Rattle.dictionary.specs.Dictionary.{upper}
 use Rattle.base32.specs.Base32.{inAlphabet, spareBits, decoded}
-use Rattle.text.specs.declared.Version.{Version}
-use Rattle.text.specs.declared.Version.the-variants.{V02, V03, V04}
-use Rattle.text.specs.Header.{versionOf, size, blank, letter, hex, part, perimeter01, perimeterIn, countryIn, parts, readHeader}
+use Rattle.header.specs.declared.Version.{Version}
+use Rattle.header.specs.declared.Version.the-variants.{V02, V03, V04}
+use Rattle.header.specs.Header.{versionOf, size, blank, letter, hex, part, perimeter01, perimeterIn, countryIn, parts, readHeader}
 use Rattle.text.specs.Signature.{wrongNumber, lengthOfChars, signatureChars, readSignature}
 
 pub record Named {A : Type 0} (x : Answer A) : Type 0 where

@@ -17,17 +17,18 @@ use Rattle.refusal.specs.declared.Refusal.{Refusal}
 use Rattle.refusal.proofs.Binds.{same-good, by-bind, by-check}
 use Rattle.dictionary.specs.Rows.{rows}
 use Rattle.dictionary.specs.declared.Field.{Field}
-use Rattle.text.specs.declared.Version.{Version}
-use Rattle.text.specs.declared.Header.{Header}
-use Rattle.text.specs.declared.HeaderRead.{HeaderRead}
+use Rattle.header.specs.declared.Version.{Version}
+use Rattle.header.specs.declared.Header.{Header}
+use Rattle.header.specs.declared.HeaderRead.{HeaderRead}
 use Rattle.text.specs.declared.SignatureRead.{SignatureRead}
 use Rattle.text.specs.declared.Mark.{Mark}
 use Rattle.text.specs.declared.Mark.the-variants.{Found, Missing}
-use Rattle.text.specs.Header.{size, readHeader}
+use Rattle.header.specs.Header.{size, readHeader}
 use Rattle.text.specs.Signature.{readSignature}
 use Rattle.text.specs.Text.{atMark, Reading, reading, readText, upToSigned}
 use Rattle.text.specs.Zone.{zone}
-use Rattle.text.specs.Code.{headerAnswer, markSays, signatureAnswer}
+use Rattle.header.specs.Code.{headerAnswer}
+use Rattle.text.specs.Code.{markSays, signatureAnswer}
 use Rattle.text_reader.specs.Answers.{zoneAnswer, textAnswer}
 use Rattle.text_reader.specs.Code.{marked}
 use Rattle.text_reader.specs.declared.Outcome.the-variants.{Accepted, Refused}

@@ -9,7 +9,7 @@ use Rattle.refusal.specs.Over.{over}
 use Rattle.dictionary.specs.declared.Field.{Field}
 use Rattle.dictionary.specs.declared.Fields.{Fields}
 use Rattle.text.specs.Text.{Reading}
-use Rattle.text.specs.Code.{noHeader}
+use Rattle.header.specs.Code.{noHeader}
 use Rattle.text_reader.specs.declared.Outcome.the-variants.{Accepted, Refused}
 use Rattle.text_reader.specs.declared.ZoneRead.{ZoneRead}
 use Rattle.text_reader.specs.declared.TextRead.{TextRead}

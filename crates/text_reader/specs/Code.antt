@@ -16,7 +16,7 @@ use Rattle.dictionary.specs.Lookup.{soFar}
 use Rattle.dictionary.specs.declared.Row.{Row}
 use Rattle.dictionary.specs.declared.Field.{Field}
 use Rattle.text.specs.Zone.{Piece, readData, zone}
-use Rattle.text.specs.Header.{Headed, size}
+use Rattle.header.specs.Header.{Headed, size}
 use Rattle.text.specs.Signature.{readSignature}
 use Rattle.text.specs.Text.{Reading}
 use Rattle.text_reader.specs.declared.DataRead.{DataRead}

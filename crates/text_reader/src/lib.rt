@@ -11,7 +11,7 @@ ghost use Rattle.dictionary.specs.Rows.{rows, rowCount};
 ghost use Rattle.dictionary.specs.Lookup.{rowTable, soFar};
 ghost use Rattle.dictionary.specs.declared.Field.{Field};
 ghost use Rattle.text.specs.Zone.{does, readData, zone};
-ghost use Rattle.text.specs.Header.{size};
+ghost use Rattle.header.specs.Header.{size};
 ghost use Rattle.text.specs.Text.{reading, readText, signedPart};
 ghost use Rattle.text_reader.specs.Answers.{noField, fieldsOf, zoneAnswer, textAnswer};
 ghost use Rattle.text_reader.specs.Code.{stepSays, dataSays, DataFits, StepFits, fieldOf, rowSays, RowFits, Marks, fieldSays, FieldFits, refusedField, marked};
@@ -32,7 +32,7 @@ pub struct ZoneRead {
 // Where the text is refused, all else is zero.
 pub struct TextRead {
     pub outcome: Outcome,
-    pub header: text::Header,
+    pub header: header::Header,
     pub fields: dictionary::Fields,
     pub signature: [u8; 132],
     pub signature_length: usize,
@@ -268,7 +268,7 @@ fn refuse_text(w: refusal::Refusal) -> TextRead
 {
     TextRead {
         outcome: Outcome::Refused(w),
-        header: text::Header {
+        header: header::Header {
             version: [0; 2],
             authority: [0; 4],
             certificate: [0; 4],
@@ -286,11 +286,11 @@ fn refuse_text(w: refusal::Refusal) -> TextRead
 }
 
 // Behind the header: the zone up to the mark at m, then the signature behind the mark.
-fn read_marked(text: &[u8], v: text::Version, header: text::Header, m: usize) -> TextRead
+fn read_marked(text: &[u8], v: header::Version, header: header::Header, m: usize) -> TextRead
     requires { ⌜ (size v ≤ m) × (m < length (now text)) × (length (now text) ≤ limit) ⌝ }
     ensures { λ r. ⌜ r ≡ textAnswer (marked (record { version = v; header = header }) (slice (size v) m (now (text .entry))) (drop (suc m) (now (text .entry)))) ⌝ }
 {
-    let z = read_zone(text, text::size_of(v), m);
+    let z = read_zone(text, header::size_of(v), m);
     let o = z.outcome;
     match o {
         Outcome::Refused(w) => {
@@ -321,14 +321,14 @@ fn read_message(text: &[u8]) -> TextRead
     requires { ⌜ length (now text) ≤ limit ⌝ }
     ensures { λ r. ⌜ r ≡ textAnswer (reading rows (now (text .entry))) ⌝ }
 {
-    let h = text::read_header(text);
+    let h = header::read_header(text);
     let w = h.refusal;
     if w.number != 0 {
         return refuse_text(w);
     }
     let v = h.version;
     let header = h.header;
-    match text::find_mark(text, text::size_of(v)) {
+    match text::find_mark(text, header::size_of(v)) {
         text::Mark::Found(m) => read_marked(text, v, header, m),
         text::Mark::Missing => refuse_text(refusal::Refusal {
             number: refusal::NO_MARK,

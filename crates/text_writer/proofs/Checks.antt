@@ -13,10 +13,10 @@ use Rattle.refusal.specs.Pick.{pick}
 use Rattle.refusal.proofs.Binds.{clash}
 use Rattle.dictionary.specs.Dictionary.{allowed, isLimit, full}
 use Rattle.dictionary.specs.declared.Row.{Row}
-use Rattle.text.specs.declared.Header.{Header}
-use Rattle.text.specs.declared.Version.{Version}
-use Rattle.text.specs.declared.Version.the-variants.{V02, V03, V04}
-use Rattle.text.specs.Header.{size, digits, headerChars}
+use Rattle.header.specs.declared.Header.{Header}
+use Rattle.header.specs.declared.Version.{Version}
+use Rattle.header.specs.declared.Version.the-variants.{V02, V03, V04}
+use Rattle.header.specs.Header.{size, digits, headerChars}
 use Rattle.text.specs.Signature.{lengthOfBytes}
 use Rattle.text.specs.Text.{inTurn, spelled}
 use Rattle.text_writer.specs.Writing.{markOf}

@@ -12,11 +12,11 @@ use Rattle.refusal.specs.Numbers.{wrong-header-character, wrong-perimeter}
 use Rattle.refusal.specs.declared.Refusal.{Refusal as RefusalOf}
 use Rattle.refusal.proofs.Binds.{by-seq, same-good}
 use Rattle.dictionary.specs.Dictionary.{upper}
-use Rattle.text.specs.declared.Header.{Header}
-use Rattle.text.specs.declared.Version.{Version}
-use Rattle.text.specs.declared.Version.the-variants.{V02, V03, V04}
-use Rattle.text.specs.Header.{letter, hex, part, perimeter01, perimeterIn, countryIn, parts, versionOf, headerChars, writeHeader}
-use Rattle.text.specs.Code.{verdict}
+use Rattle.header.specs.declared.Header.{Header}
+use Rattle.header.specs.declared.Version.{Version}
+use Rattle.header.specs.declared.Version.the-variants.{V02, V03, V04}
+use Rattle.header.specs.Header.{letter, hex, part, perimeter01, perimeterIn, countryIn, parts, versionOf, headerChars, writeHeader}
+use Rattle.header.specs.Code.{verdict}
 use Rattle.text_writer.specs.declared.Room.the-variants.{Refused}
 use Rattle.text_writer.specs.Writing.{roomOf}
 

@@ -21,9 +21,9 @@ use Rattle.dictionary.specs.declared.Row.{Row}
 use Rattle.dictionary.specs.declared.Field.{Field}
 use Rattle.dictionary.specs.declared.Fields.{Fields}
 use Rattle.base32.specs.Base32.{encoded}
-use Rattle.text.specs.declared.Header.{Header}
-use Rattle.text.specs.declared.Version.{Version}
-use Rattle.text.specs.Header.{versionOf, headerChars, writeHeader}
+use Rattle.header.specs.declared.Header.{Header}
+use Rattle.header.specs.declared.Version.{Version}
+use Rattle.header.specs.Header.{versionOf, headerChars, writeHeader}
 use Rattle.text.specs.Signature.{lengthOfBytes, writeSignature}
 use Rattle.text.specs.Text.{Message, dataOf, within, inTurn, writeField, writeZone, writing, writeText}
 use Rattle.text_writer.specs.declared.Room.{Room}

@@ -14,9 +14,9 @@ use Rattle.dictionary.specs.declared.Row.{Row}
 use Rattle.dictionary.specs.declared.Field.{Field}
 use Rattle.dictionary.specs.declared.Fields.{Fields}
 use Rattle.base32.specs.Base32.{encoded}
-use Rattle.text.specs.declared.Header.{Header}
-use Rattle.text.specs.declared.Version.{Version}
-use Rattle.text.specs.Header.{headerChars}
+use Rattle.header.specs.declared.Header.{Header}
+use Rattle.header.specs.declared.Version.{Version}
+use Rattle.header.specs.Header.{headerChars}
 use Rattle.text.specs.Text.{Message, dataOf, within, inTurn, spelled, writeText}
 use Rattle.text_writer.specs.declared.Room.{Room}
 use Rattle.text_writer.specs.declared.Room.the-variants.{Takes, Refused as NoRoom}

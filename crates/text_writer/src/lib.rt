@@ -4,9 +4,9 @@ use dictionary::Field;
 use dictionary::Fields;
 use dictionary::Limit;
 use dictionary::Row;
+use header::Header;
+use header::Version;
 use refusal::Refusal;
-use text::Header;
-use text::Version;
 ghost use mathlib.Core.Bool.{_&&_};
 ghost use mathlib.Core.Path.{_≡_};
 ghost use mathlib.Core.List.{List, []};
@@ -19,7 +19,7 @@ ghost use Rattle.dictionary.specs.Dictionary.{fixed, rowsOf};
 ghost use Rattle.dictionary.specs.Rows.{rows as theRows};
 ghost use Rattle.dictionary.specs.Lookup.{rowTable};
 ghost use Rattle.dictionary.specs.declared.Field.{Field as FieldOf};
-ghost use Rattle.text.specs.Header.{size, versionOf, headerChars, writeHeader};
+ghost use Rattle.header.specs.Header.{size, versionOf, headerChars, writeHeader};
 ghost use Rattle.text.specs.Signature.{lengthOfBytes};
 ghost use Rattle.text.specs.Text.{within, inTurn, spelled, writeField, writeZone, writing};
 ghost use Rattle.text_writer.specs.Writing.{messageOf, writeFirst, textWritten, writtenOver, widest, roomOf, Below, writeData, markOf, Inside, fieldChars, zoneChars, textChars};
@@ -216,7 +216,7 @@ fn header_size(h: Header, v: Version) -> usize
     ensures size { λ x. ⌜ x ≡ size v ⌝ }
     ensures small { λ x. ⌜ x < 27 ⌝ }
 {
-    text::size_of(v)
+    header::size_of(v)
 }
 
 // Of a known version, left to right what reading the header's characters would refuse.
@@ -225,7 +225,7 @@ fn room_of_header(h: Header, v: Version) -> Room
     ensures says { λ x. ⌜ x ≡ roomOf (writeHeader h) ⌝ }
     ensures small { λ x. ⌜ Below 27 x ⌝ }
 {
-    let wrong = text::check_header(h);
+    let wrong = header::check_header(h);
     if wrong.number != 0 {
         return Room::Refused(wrong);
     }
@@ -328,7 +328,7 @@ fn write_parts(
     ensures { λ _. ⌜ now (out .exit) ≡ over (textChars theRows v header fields (now (signature .entry)) (now (slice .entry))) (now (out .entry)) ⌝ }
 {
     let h = header_size(header, v);
-    text::write_header(header, v, out);
+    header::write_header(header, v, out);
     let n = write_zone(fields, slice, &mut out[h..]);
     let m = h + n;
     out[m] = 31;
@@ -352,7 +352,7 @@ pub fn write_text(
     if refusal::MOST_FIELDS < fields.count {
         return no_text(refusal::TOO_MANY_FIELDS, refusal::MOST_FIELDS);
     }
-    let text::VersionRead::Known(v) = text::header_version(header) else {
+    let header::VersionRead::Known(v) = header::header_version(header) else {
         return no_text(refusal::UNKNOWN_VERSION, 2);
     };
     let n = match room_of_text(header, v, fields, slice, signature) {

@@ -40,7 +40,7 @@ use Rattle.refusal.specs.Answers.{Answer as Outcome}
 use Rattle.dictionary.specs.Rows.{rows}
 use Rattle.dictionary.specs.declared.Field.{Field}
 use Rattle.dictionary.specs.declared.Fields.{Fields}
-use Rattle.text.specs.declared.Header.{Header}
+use Rattle.header.specs.declared.Header.{Header}
 use Rattle.text.specs.Text.{writeText}
 use Rattle.text_writer.specs.Writing.{writeFirst, writtenOver}
 use Rattle.records.specs.Lists.{byValue}
@@ -50,8 +50,8 @@ use Rattle.ddoc.proofs.AnyList.{message, any-list}
 use Rattle.dictionary.proofs.Field as T
 use Rattle.dictionary.proofs.Fields as F
 use Rattle.dictionary.proofs.Fields.Laws as F′
-use Rattle.text.proofs.Header as R
-use Rattle.text.proofs.Header.Laws as R′
+use Rattle.header.proofs.Header as R
+use Rattle.header.proofs.Header.Laws as R′
 use Rattle.ddoc.proofs.Answer as N
 use Rattle.ddoc.proofs.Answer.Laws as N′
 use Rattle.records.proofs.take_fields as taken

@@ -1,7 +1,7 @@
 -- `wrong_number` meets its contract, version by version. Assumes nothing.
 use mathlib.Core.Path.{sym, ap, _∙_}
 use Rattle.text.specs.Signature.{wrongNumber}
-use Rattle.text.proofs.Versions.{annex-number, other-number}
+use Rattle.text.proofs.Signs.{annex-number, other-number}
 use borrow.Author.Needs.{needs}
 use Rattle.text.proofs.wrong_number.Statement.{statement}
 use Rattle.text.proofs.wrong_number.Tie as tie

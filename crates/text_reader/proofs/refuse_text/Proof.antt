@@ -1,6 +1,6 @@
 -- `refuse_text` meets its contract: zeros beside the refusal. Assumes nothing.
 use lib.ListN.{replicate}
-use Rattle.text.specs.Code.{noHeader}
+use Rattle.header.specs.Code.{noHeader}
 use Rattle.text_reader.specs.declared.Outcome.the-variants.{Refused}
 use borrow.Author.Needs.{needs}
 use Rattle.text_reader.proofs.refuse_text.Statement.{statement}

@@ -1,7 +1,7 @@
 -- `header_size` meets its contract: the parts are arrays of their lengths. Assumes nothing.
 use mathlib.Core.Path.{sym, _∙_}
 use native.Mathlib.Omega.{arith}
-use Rattle.text.proofs.Writes.{most-size}
+use Rattle.header.proofs.Writes.{most-size}
 use Rattle.text_writer.proofs.Checks.{header-long}
 use borrow.Author.Needs.{needs}
 use Rattle.text_writer.proofs.header_size.Statement.{statement}

@@ -1,7 +1,7 @@
 -- `room_of_header` meets its contract: a verdict without a number tells of a good header. Assumes nothing.
 use mathlib.Core.Path.{sym, ap, _∙_}
 use native.Mathlib.Omega.{arith}
-use Rattle.text.specs.Header.{writeHeader}
+use Rattle.header.specs.Header.{writeHeader}
 use Rattle.text_writer.specs.declared.Room.the-variants.{Takes}
 use Rattle.text_writer.specs.Writing.{roomOf}
 use Rattle.text_writer.proofs.Headers.{with-number, header-good}

@@ -8,7 +8,7 @@ use lib.ListN.{length, take}
 use borrow.Author.Tests.{not-true, not-false}
 use Rattle.base32.proofs.Groups.{length-encoded}
 use Rattle.dictionary.specs.Rows.{rows as theRows}
-use Rattle.text.specs.Header.{writeHeader}
+use Rattle.header.specs.Header.{writeHeader}
 use Rattle.text.specs.Signature.{lengthOfBytes}
 use Rattle.text.specs.Text.{writeZone}
 use Rattle.text_writer.specs.declared.Room.the-variants.{Takes}

@@ -6,7 +6,7 @@ use borrow.Rule.Slice.PartMut.{putMid}
 use Rattle.base32.specs.Base32.{encoded}
 use Rattle.base32.proofs.Groups.{part-length, length-encoded}
 use Rattle.dictionary.specs.Rows.{rows as theRows}
-use Rattle.text.specs.Header.{headerChars}
+use Rattle.header.specs.Header.{headerChars}
 use Rattle.text_writer.specs.Writing.{zoneChars}
 use Rattle.text_writer.proofs.Fills.{text-length, ahead-long, marked-long, whole, whole-long}
 use borrow.Author.Needs.{needs}

@@ -4,7 +4,7 @@ use mathlib.Core.Path.{sym, ap, _∙_}
 use native.Mathlib.Omega.{arith}
 use lib.ListN.{length}
 use Rattle.dictionary.specs.Rows.{rows as theRows}
-use Rattle.text.specs.Code.{versionSays}
+use Rattle.header.specs.Code.{versionSays}
 use Rattle.text_writer.proofs.Texts.{Accepted, accepted, refuses, too-many, unknown, inside-refused, too-long, no-room, written-whole}
 use borrow.Author.Needs.{needs}
 use Rattle.text_writer.proofs.write_text.Statement.{statement}
