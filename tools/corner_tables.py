@@ -3,15 +3,8 @@
 
 usage: tools/corner_tables.py > crates/codeword/specs/Corners.antt
 
-The cases: short ones of host/data/read_symbol.jsonl, of every refusal in turn; some of its cases around the limit of 1,000 characters; and
-corners whose answers come from a plain loop below that shares nothing with the definition, with room for few characters only.
+The cases are corners, with room for few characters only; their answers come from a plain loop below that shares nothing with the definition.
 """
-import json
-from pathlib import Path
-
-ROOT = Path(__file__).resolve().parent.parent
-SHORT, LONG = 60, 6
-
 
 def reading(codewords, room):
     """Document 01, "From codewords to text", as a loop over places: (text, used) or (number, place)."""
@@ -84,29 +77,7 @@ def table(name, note, reader, cases):
     lines = ["", "-- " + note, "%s : map (λ (x : Case). %s)" % (name, reader)]
     lines += ["    %s(%s, %d)" % ("(" if i == 0 else "∷ ", listed(c), n) for i, (c, n, out) in enumerate(cases)] + ["    ∷ [])"]
     lines += ["    %s%s" % ("≡ " if i == 0 else "∷ ", answer(c, out)) for i, (c, n, out) in enumerate(cases)] + ["    ∷ []"]
-    return lines + ["unfolding readSymbol read value unfinished ascii lone pair among capacities", "%s = refl" % name]
-
-
-def vectors():
-    for line in (ROOT / "host/data/read_symbol.jsonl").read_text().splitlines():
-        case = json.loads(line)
-        given, out = case["in"], case["out"]
-        result = (out["refused"], out["place"]) if "refused" in out else (list(bytes.fromhex(out["text_hex"])), out["before_pad"])
-        yield case["kind"], (given["codewords"], given["lent"], result)
-
-
-def short_cases():
-    """SHORT cases of at most 22 codewords, of acceptance and of each refusal in turn."""
-    by_answer = {}
-    for _, case in vectors():
-        if len(case[0]) <= 22:
-            by_answer.setdefault(case[2][0] if not isinstance(case[2][0], list) else 0, []).append(case)
-    chosen = []
-    while len(chosen) < SHORT and any(by_answer.values()):
-        for cases in by_answer.values():
-            if cases and len(chosen) < SHORT:
-                chosen.append(cases.pop(len(cases) // 3))
-    return chosen
+    return lines + ["unfolding read value unfinished ascii lone pair", "%s = refl" % name]
 
 
 def corner_cases():
@@ -130,16 +101,12 @@ def main():
         "use mathlib.Core.Bool.{true, false}",
         "use mathlib.Core.List.{List, [], _∷_, map}",
         "use mathlib.Core.Path.{_≡_, refl}",
-        "use Rattle.refusal.specs.Among.{among}",
         "use Rattle.codeword.specs.Meanings.{ascii, lone, pair, value, unfinished}",
-        "use Rattle.codeword.specs.Sizes.{capacities}",
-        "use Rattle.codeword.specs.Reading.{good, refused, inAscii, read, readSymbol}",
+        "use Rattle.codeword.specs.Reading.{good, refused, inAscii, read}",
         "",
-        "-- codewords, and the length of the lent text or the room for characters",
+        "-- codewords, and the room for characters",
         "abbrev Case : Type 0",
         "Case = List ℕ × ℕ"]
-        + table("vectors", "test vectors, whole symbols", "readSymbol (x .0) (x .1)", short_cases())
-        + table("limits", "around the limit of 1,000 characters", "readSymbol (x .0) (x .1)", [c for kind, c in vectors() if kind == "around the limit"][:LONG])
         + table("corners", "corners, with room for seven characters and for one", "read (x .0) inAscii (x .1)", corner_cases())))
 
 

@@ -1,5 +1,6 @@
 // Compares the library with two independent decoders: symbols that the library accepts, and symbols
-// that it writes, are drawn whole, read by libdmtx and by zxing-cpp, and the texts compared.
+// that it writes, are drawn whole, read by libdmtx and by zxing-cpp, and the texts compared. The published
+// examples are read from a file, so it is run from the repository's root.
 //     compare [SEED]
 #include "../../include/ddoc.h"
 #include "decoders.hpp"
@@ -9,6 +10,7 @@
 #include <chrono>
 #include <cstdio>
 #include <cstdlib>
+#include <fstream>
 
 namespace {
 
@@ -281,12 +283,14 @@ struct Sample {
 };
 
 const Sample samples[] = {
+    {{129, 175, 70}, ""},
     {{230, 87, 158}, "A\x1d"},
     {{230, 89, 217}, "AB"},
     {{230, 250, 0}, "ZZZ"},
     {{230, 91, 11, 91, 11, 91, 11, 254}, "AIMAIMAIM"},
     {{142, 164, 186}, "123456"},
     {{66, 67, 129}, "AB"},
+    {{66, 67, 68, 69, 129}, "ABCD"},
     {{230, 89, 233}, "ABC"},
 };
 
@@ -321,6 +325,21 @@ Written write(const std::string &text)
     return w;
 }
 
+// The symbol of a text. Where the library gives none, that is a fault, and no codewords come back.
+Codewords written(Group &g, const std::string &text)
+{
+    const Written w = write(text);
+    if (w.answer.number == 0 && !w.words.empty()) return w.words;
+    g.fault(w.words, text, "writing", w.answer.number ? "refused " + std::to_string(w.answer.number) : "no codewords");
+    return {};
+}
+
+// Both decoders read every one: the library writes no 254 directly behind a latch.
+void none_apart(Group &g)
+{
+    if (g.apart) g.wrong++, printf("%s: %d with an empty C40 part\n", g.name, g.apart);
+}
+
 // Runs of what the modes treat alike, all 128 characters, or like a document.
 std::string some_text(std::mt19937_64 &random, size_t length)
 {
@@ -334,22 +353,18 @@ std::string some_text(std::mt19937_64 &random, size_t length)
 
 int written_sizes[24] = {};
 
-// Both decoders read every one: the library writes no 254 directly behind a latch.
 void written_group(const char *name, int first, int end, int each, bool picture, std::mt19937_64 &random)
 {
     Group g{name};
     for (int s = first; s < end; s++)
         for (int i = 0; i < each; i++) {
             const std::string text = some_text(random, random() % (std::min(1000, 2 * sizes[s].data) + 1));
-            const Written w = write(text);
-            if (w.answer.number) {
-                g.fault(w.words, text, "writing", "refused " + std::to_string(w.answer.number));
-                continue;
-            }
-            written_sizes[&size_of(w.words.size()) - sizes]++;
-            g.add(w.words, text, picture);
+            const Codewords words = written(g, text);
+            if (words.empty()) continue;
+            written_sizes[&size_of(words.size()) - sizes]++;
+            g.add(words, text, picture);
         }
-    if (g.apart) g.wrong++, printf("%s: %d with an empty C40 part\n", name, g.apart);
+    none_apart(g);
     std::string list;
     for (int i = 0; i < kinds; i++)
         if (g.count[i]) list += std::string(", ") + kind_names[i] + " " + std::to_string(g.count[i]);
@@ -368,6 +383,35 @@ void every_size()
         if (!written_sizes[s]) g.wrong++, printf("%s: none of %d\n", g.name, sizes[s].data);
     }
     report(g, list);
+}
+
+// The input of the program `samples`: one text a line, its control characters as they are, so that no JSON
+// has to be read. They are those of host/data/published.json.
+const char *const published_file = "crates/samples/stdin";
+
+std::vector<std::string> published_texts()
+{
+    std::vector<std::string> texts;
+    std::ifstream file(published_file);
+    if (!file) printf("can't open %s: compare is run from the repository's root\n", published_file);
+    for (std::string line; std::getline(file, line);) texts.push_back(line);
+    return texts;
+}
+
+// Every example of the specification, whether or not its text is accepted as a message: all are characters
+// that a symbol can hold. The texts are counted, as a file cut short would leave some out in silence.
+void published_group()
+{
+    Group g{"published examples"};
+    const std::vector<std::string> texts = published_texts();
+    for (const std::string &text : texts) {
+        const Codewords words = written(g, text);
+        if (words.empty()) continue;
+        for (bool picture : {false, true}) expect(g, {words, text}, picture);
+    }
+    none_apart(g);
+    if (texts.size() < 60) g.wrong++, printf("%s: %zu texts in %s, at least 60 expected\n", g.name, texts.size(), published_file);
+    report(g, ", " + std::to_string(texts.size()) + " texts, each by modules and by picture");
 }
 
 // The two symbols of the known difference: without the exception libdmtx would be wrong. A lone 254 is
@@ -406,6 +450,7 @@ int main(int count, char **arguments)
     written_group("written, by modules, 52x52 to 120x120", 14, 22, 60, false, random);
     written_group("written, by picture, 10x10 to 120x120", 0, 22, 5, true, random);
     every_size();
+    published_group();
     printf("%.1f seconds\n", std::chrono::duration<double>(std::chrono::steady_clock::now() - start).count());
     printf("%d passed, %d failed\n", passed, failed);
     return failed != 0;

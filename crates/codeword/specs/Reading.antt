@@ -6,7 +6,7 @@ use lib.Dec.{leb, eqb}
 use lib.ListN.{length}
 use Rattle.refusal.specs.Limits.{limit}
 use Rattle.refusal.specs.Pick.{pick}
-use Rattle.refusal.specs.Numbers.{no-capacity, forbidden-codeword, pair-outside, unused-value, text-too-long, lent-too-short}
+use Rattle.refusal.specs.Numbers.{count-no-capacity, forbidden-codeword, pair-outside, wrong-value, text-too-long, lent-too-short}
 use Rattle.codeword.specs.declared.Set.{Set}
 use Rattle.codeword.specs.declared.Set.the-variants.{Basic}
 use Rattle.codeword.specs.declared.Value.{Value}
@@ -61,11 +61,11 @@ give c rest (suc room) = cons c (rest room)
 abbrev pub put : Value → (Set → Step) → Step
 put (Char c) rest = give c (rest Basic)
 put (Shift s) rest = rest s
-put Unused rest = refuse unused-value
+put Unused rest = refuse wrong-value
 
 -- where a shift may wait with nothing after it: at codeword 254, at the lone last codeword or at the end
 abbrev pub finish : Set → Step → Step
-finish s rest = pick (unfinished s) (refuse unused-value) rest
+finish s rest = pick (unfinished s) (refuse wrong-value) rest
 
 -- a codeword in ASCII mode, with what the rest gives in ASCII mode and in C40 mode
 abbrev pub onAscii : Ascii → (in-ascii in-c40 : Step) → Step
@@ -105,4 +105,4 @@ unfoldable pub readSymbol : (codewords : List ℕ) (lent : ℕ) → Reading
 readSymbol codewords lent =
     pick (isCapacity (length codewords))
     (pick (leb limit lent) (read codewords inAscii limit) (refused lent-too-short 0))
-    (refused no-capacity 0)
+    (refused count-no-capacity 0)

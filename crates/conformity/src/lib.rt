@@ -7,7 +7,7 @@ use dictionary::Fields;
 use refusal::Refusal;
 ghost use mathlib.Core.Path.{_≡_};
 ghost use mathlib.Core.List.{[], _∷_};
-ghost use Prim.Native.Nat.{_<_, min};
+ghost use Prim.Native.Nat.{_<_};
 ghost use lib.ListN.{take};
 ghost use Rattle.dictionary.specs.Rows.{rowCount};
 ghost use Rattle.conformity.specs.Tables.{footnote-star, footnote-6};
@@ -225,21 +225,11 @@ pub fn decide(s: Seen) -> Conformity
     Conformity::Conforms
 }
 
-// How many records of a list of 64 count.
-fn at_most_64(count: usize) -> usize
-    ensures { λ r. ⌜ r ≡ min count 64 ⌝ }
-{
-    if count < 64 {
-        return count;
-    }
-    64
-}
-
 // The conformity of a message's fields to the table of its type.
 pub fn conforms(type0: u8, type1: u8, f: Fields) -> Conformity
     ensures { λ r. ⌜ r ≡ answered (rightAnswer type0 type1 (take (f .count) (f .list))) ⌝ }
 {
-    let end = at_most_64(f.count);
+    let end = dictionary::held(f.count);
     let mut s = begin(type0, type1);
     let mut i = 0;
     while i < end {

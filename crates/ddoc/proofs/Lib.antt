@@ -2,3 +2,4 @@
 mod Numbers
 mod Stored
 mod AnyList
+mod One

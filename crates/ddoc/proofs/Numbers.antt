@@ -1,5 +1,4 @@
--- The answers of the layers below, turned into numbers, are what the definitions of this crate say; and the promises on conformity and on
--- writing a symbol leave one answer.
+-- The answers of the layers below, turned into numbers, are what the definitions of this crate say.
 -- Assumes nothing.
 use mathlib.Core.Path.{_≡_, refl, ap, sym, _∙_}
 use mathlib.Core.List.{List}
@@ -26,21 +25,6 @@ numbers (Refused r) = record { number = r .number; place = r .place; length = 0;
 pub numbers-are : (o : Reading) → numbers (answered o) ≡ readingAnswer o
 numbers-are (good t n b) = refl
 numbers-are (refused k p) = refl
-
--- what `ddoc_conformity` promises
-abbrev pub Checked : (type0 type1 : ℕ) → List Field → Answer → Type 0
-Checked a b l r = r ≡ conformityAnswer (as-enum (conforms a b l))
-
-pub only-one : (a b : ℕ) (l : List Field) (r r′ : Answer) → Checked a b l r → Checked a b l r′ → r ≡ r′
-only-one a b l r r′ p q = p ∙ sym q
-
--- what `ddoc_write_symbol` promises
-pub writes-one :
-    (t : List ℕ) (largest work : ℕ) (old new new′ : List ℕ) (r r′ : Answer) →
-    Writes t largest work old new r → Writes t largest work old new′ r′ → (r ≡ r′) × (new ≡ new′)
-writes-one t largest work old new new′ r r′ W W′ =
-    let e = symbol-writer.only-one t largest old work new new′ (W .answer) (W′ .answer) (W .promised) (W′ .promised) in
-    (W .numbers ∙ ap writingAnswer (e .0) ∙ sym (W′ .numbers), e .1)
 
 abbrev pub text-numbers : TextWritten → Answer
 text-numbers (Written n) = record { number = 0; place = 0; length = n; used = 0 }

@@ -12,7 +12,7 @@ use lib.ListN.{length, getD}
 use borrow.Author.Tests.{eq-eqb, eqb-true}
 use Rattle.refusal.specs.Pick.{pick}
 use Rattle.refusal.specs.Answers.{good, refused}
-use Rattle.refusal.specs.Numbers.{unknown-identifier, no-row}
+use Rattle.refusal.specs.Numbers.{unknown-identifier, bad-record}
 use Rattle.dictionary.specs.declared.Row.{Row}
 use Rattle.dictionary.specs.declared.Found.{Found}
 use Rattle.dictionary.specs.declared.Found.the-variants.{At, Unknown}
@@ -92,7 +92,7 @@ row-there x [] n i h = absurd (omega arith)
 row-there x (r ∷ d) zero i h = refl
 row-there x (r ∷ d) (suc n) i h = row-there x d n i (omega arith)
 
-pub row-past : (d : Dictionary) (n i : ℕ) → length d ≤ n → refused no-row i ≡ rowAt d n i
+pub row-past : (d : Dictionary) (n i : ℕ) → length d ≤ n → refused bad-record i ≡ rowAt d n i
 unfolding rowAt
 row-past [] n i h = refl
 row-past (r ∷ d) zero i h = absurd (omega arith)

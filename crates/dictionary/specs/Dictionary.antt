@@ -6,7 +6,7 @@ use lib.Dec.{leb, eqb}
 use lib.ListN.{length}
 use Rattle.refusal.specs.Pick.{pick}
 use Rattle.refusal.specs.Answers.{Answer, good, refused}
-use Rattle.refusal.specs.Numbers.{unknown-identifier, no-row}
+use Rattle.refusal.specs.Numbers.{unknown-identifier, bad-record}
 use Rattle.dictionary.specs.declared.Kind.{Kind}
 use Rattle.dictionary.specs.declared.Kind.the-variants.{Numeric, Alphabetic, Alphanumeric}
 use Rattle.dictionary.specs.declared.Limit.{Limit}
@@ -60,7 +60,7 @@ find a b k p (r ∷ d) = pick (eqb a (r .first) && eqb b (r .second)) (good (rec
 
 -- the row of a number; refused at the place i where there is none
 unfoldable pub rowAt : Dictionary → (number i : ℕ) → Answer Row
-rowAt [] n i = refused no-row i
+rowAt [] n i = refused bad-record i
 rowAt (r ∷ d) zero i = good r
 rowAt (r ∷ d) (suc n) i = rowAt d n i
 
@@ -76,6 +76,10 @@ distinct (r ∷ d) = not (listed (r .first) (r .second) d) && distinct d
 unfoldable pub plain : Dictionary → Bool
 plain [] = true
 plain (r ∷ d) = (leb 32 (r .first) && leb 32 (r .second)) && plain d
+
+-- a record of zeros: what stands where there is no field
+abbrev pub noField : Field
+noField = record { row = 0; cut = false; start = 0; length = 0 }
 
 -- the rows that fields name
 abbrev pub rowsOf : List Field → List ℕ

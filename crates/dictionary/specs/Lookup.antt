@@ -5,7 +5,7 @@ use lib.Dec.{eqb, ltb}
 use lib.ListN.{take, drop}
 use Rattle.refusal.specs.Pick.{pick}
 use Rattle.refusal.specs.Answers.{Answer, good, refused}
-use Rattle.refusal.specs.Numbers.{unknown-identifier, no-row}
+use Rattle.refusal.specs.Numbers.{unknown-identifier, bad-record}
 use Rattle.dictionary.specs.declared.Kind.{Kind}
 use Rattle.dictionary.specs.declared.Kind.the-variants.{Numeric, Alphabetic, Alphanumeric}
 use Rattle.dictionary.specs.declared.Limit.{Limit}
@@ -30,7 +30,7 @@ foundSays Unknown p = refused unknown-identifier p
 -- the row of a number, for the record at the place i
 abbrev pub rowFoundSays : RowFound → (i : ℕ) → Answer Row
 rowFoundSays (Is r) i = good r
-rowFoundSays NoRow i = refused no-row i
+rowFoundSays NoRow i = refused bad-record i
 
 -- the table's number for a greatest length, 255 being none, and for a type
 abbrev pub limitOf : ℕ → Limit

@@ -2,8 +2,9 @@
 mod table;
 
 ghost use mathlib.Core.Path.{_≡_};
-ghost use Prim.Native.Nat.{ℕ, _+_, _<_, _≤_};
+ghost use Prim.Native.Nat.{ℕ, _+_, _<_, _≤_, min};
 ghost use lib.ListN.{length, getD};
+ghost use Rattle.refusal.specs.Limits.{most-fields};
 ghost use Rattle.dictionary.specs.Dictionary.{between as isBetween, inKind, isLimit, fixed, allowed, find, rowAt};
 ghost use Rattle.dictionary.specs.Rows.{rows};
 ghost use Rattle.dictionary.specs.Lookup.{limitOf, kindOf, rowTable, baseOf, digitOf, placeOf, noRow, foundSays, rowFoundSays, soFar};
@@ -39,7 +40,7 @@ pub struct Field {
 
 // The fields of a message: the first `count` of the list.
 pub struct Fields {
-    pub list: [Field; 64],
+    pub list: [Field; refusal::MOST_FIELDS],
     pub count: usize,
 }
 
@@ -53,6 +54,16 @@ pub enum Found {
 pub enum RowFound {
     Is(Row),
     NoRow,
+}
+
+// How many of n records a message can hold.
+pub fn held(n: usize) -> usize
+    ensures { λ r. ⌜ r ≡ min n most-fields ⌝ }
+{
+    if n < refusal::MOST_FIELDS {
+        return n;
+    }
+    refusal::MOST_FIELDS
 }
 
 pub fn between(a: u8, b: u8, c: u8) -> bool

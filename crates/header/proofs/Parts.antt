@@ -16,7 +16,7 @@ use Rattle.dictionary.specs.Dictionary.{upper}
 use Rattle.header.specs.declared.Version.{Version}
 use Rattle.header.specs.declared.Version.the-variants.{V02, V03, V04}
 use Rattle.header.specs.declared.Header.{Header}
-use Rattle.header.specs.Header.{size, letter, hex, part, number, perimeterIn, countryIn, versionChars, parts}
+use Rattle.header.specs.Header.{size, upperOrDigit, hex, part, number, perimeterIn, countryIn, versionChars, parts}
 use Rattle.header.specs.Code.{verdict, inPlace, Right, FirstWrong, perimeterVerdict, countryVerdict, firstOf, tailVerdict}
 use Rattle.header.proofs.Sets.{narrow}
 
@@ -46,11 +46,11 @@ part-bad (f ∷ fs) p t w a l h ok bad = go (eqb p w) refl (λ n. part-bad fs (s
     go false q ih = let n : p ≡ w → ⊥ = eqb-false p w q in rw (a .0 ∙ ok p (omega arith) (omega (arith, n)), ih n)
 
 module _ (v : Version) (t : List ℕ) where
-  authority-good : Right t 4 8 → part (upper ∷ upper ∷ letter ∷ letter ∷ []) 4 t ≡ good (charsAt 4 4 t)
-  authority-good r = part-good (upper ∷ upper ∷ letter ∷ letter ∷ []) 4 t (refl, (refl, (refl, (refl, tt)))) r
+  authority-good : Right t 4 8 → part (upper ∷ upper ∷ upperOrDigit ∷ upperOrDigit ∷ []) 4 t ≡ good (charsAt 4 4 t)
+  authority-good r = part-good (upper ∷ upper ∷ upperOrDigit ∷ upperOrDigit ∷ []) 4 t (refl, (refl, (refl, (refl, tt)))) r
 
-  certificate-good : Right t 8 12 → part (letter ∷ letter ∷ letter ∷ letter ∷ []) 8 t ≡ good (charsAt 4 8 t)
-  certificate-good r = part-good (letter ∷ letter ∷ letter ∷ letter ∷ []) 8 t (refl, (refl, (refl, (refl, tt)))) r
+  certificate-good : Right t 8 12 → part (upperOrDigit ∷ upperOrDigit ∷ upperOrDigit ∷ upperOrDigit ∷ []) 8 t ≡ good (charsAt 4 8 t)
+  certificate-good r = part-good (upperOrDigit ∷ upperOrDigit ∷ upperOrDigit ∷ upperOrDigit ∷ []) 8 t (refl, (refl, (refl, (refl, tt)))) r
 
   issue-good : Right t 12 16 → part (hex ∷ hex ∷ hex ∷ hex ∷ []) 12 t ≡ good (charsAt 4 12 t)
   issue-good r = part-good (hex ∷ hex ∷ hex ∷ hex ∷ []) 12 t (refl, (refl, (refl, (refl, tt)))) r
@@ -58,8 +58,8 @@ module _ (v : Version) (t : List ℕ) where
   signing-good : Right t 16 20 → part (hex ∷ hex ∷ hex ∷ hex ∷ []) 16 t ≡ good (charsAt 4 16 t)
   signing-good r = part-good (hex ∷ hex ∷ hex ∷ hex ∷ []) 16 t (refl, (refl, (refl, (refl, tt)))) r
 
-  type-good : Right t 20 22 → part (letter ∷ letter ∷ []) 20 t ≡ good (charsAt 2 20 t)
-  type-good r = part-good (letter ∷ letter ∷ []) 20 t (refl, (refl, tt)) r
+  type-good : Right t 20 22 → part (upperOrDigit ∷ upperOrDigit ∷ []) 20 t ≡ good (charsAt 2 20 t)
+  type-good r = part-good (upperOrDigit ∷ upperOrDigit ∷ []) 20 t (refl, (refl, tt)) r
 
   -- with perimeter and country
   abbrev with : List ℕ → List ℕ → Header
@@ -86,7 +86,7 @@ module _ (v : Version) (t : List ℕ) where
         certificate-good (narrow t 4 w 8 12 r (omega arith) (omega arith)),
         issue-good (narrow t 4 w 12 16 r (omega arith) (omega arith)),
         signing-good (narrow t 4 w 16 20 r (omega arith) (omega arith)),
-        part-bad (letter ∷ letter ∷ []) 20 t w (refl, (refl, tt)) g h (narrow t 4 w 20 w r (omega arith) (omega arith)) bad,
+        part-bad (upperOrDigit ∷ upperOrDigit ∷ []) 20 t w (refl, (refl, tt)) g h (narrow t 4 w 20 w r (omega arith) (omega arith)) bad,
       )
 
       in-signing : (b : Bool) → ltb w 20 ≡ b → 16 ≤ w → parts v t ≡ refused wrong-header-character w
@@ -109,12 +109,12 @@ module _ (v : Version) (t : List ℕ) where
       in-certificate : (b : Bool) → ltb w 12 ≡ b → 8 ≤ w → parts v t ≡ refused wrong-header-character w
       in-certificate true q g = rw (
         authority-good (narrow t 4 w 4 8 r (omega arith) (omega arith)),
-        part-bad (letter ∷ letter ∷ letter ∷ letter ∷ []) 8 t w (refl, (refl, (refl, (refl, tt)))) g (ltb-true w 12 q) (narrow t 4 w 8 w r (omega arith) (omega arith)) bad,
+        part-bad (upperOrDigit ∷ upperOrDigit ∷ upperOrDigit ∷ upperOrDigit ∷ []) 8 t w (refl, (refl, (refl, (refl, tt)))) g (ltb-true w 12 q) (narrow t 4 w 8 w r (omega arith) (omega arith)) bad,
       )
       in-certificate false q g = in-issue (ltb w 16) refl (ltb-false w 12 q)
 
       in-authority : (b : Bool) → ltb w 8 ≡ b → parts v t ≡ refused wrong-header-character w
-      in-authority true q = rw (part-bad (upper ∷ upper ∷ letter ∷ letter ∷ []) 4 t w (refl, (refl, (refl, (refl, tt)))) l (ltb-true w 8 q) r bad)
+      in-authority true q = rw (part-bad (upper ∷ upper ∷ upperOrDigit ∷ upperOrDigit ∷ []) 4 t w (refl, (refl, (refl, (refl, tt)))) l (ltb-true w 8 q) r bad)
       in-authority false q = in-certificate (ltb w 12) refl (ltb-false w 8 q)
 
 -- what is refused of two answers in turn

@@ -10,17 +10,17 @@ use lib.ListN.{getD}
 use borrow.Author.Tests.{ltb-true, ltb-false, leb-true, lt-ltb, le-ltb, le-leb, lt-leb}
 use Rattle.refusal.proofs.Binds.{by-and, by-or}
 use Rattle.dictionary.specs.Dictionary.{upper, digit, between}
-use Rattle.header.specs.Header.{letter, hex}
+use Rattle.header.specs.Header.{upperOrDigit, hex}
 use Rattle.header.specs.Code.{inPlace, Right}
 
-pub letter-upper : (c : ℕ) → upper c ≡ true → true ≡ letter c
-letter-upper c e = rw e
+pub either-upper : (c : ℕ) → upper c ≡ true → true ≡ upperOrDigit c
+either-upper c e = rw e
 
-pub letter-digit : (c : ℕ) → upper c ≡ false → 48 ≤ c → leb c 57 ≡ letter c
-letter-digit c e h = rw (e, le-leb 48 c h)
+pub either-digit : (c : ℕ) → upper c ≡ false → 48 ≤ c → leb c 57 ≡ upperOrDigit c
+either-digit c e h = rw (e, le-leb 48 c h)
 
-pub letter-none : (c : ℕ) → upper c ≡ false → c < 48 → false ≡ letter c
-letter-none c e h = rw (e, lt-leb 48 c h)
+pub either-none : (c : ℕ) → upper c ≡ false → c < 48 → false ≡ upperOrDigit c
+either-none c e h = rw (e, lt-leb 48 c h)
 
 pub hex-low : (c : ℕ) → c < 65 → 48 ≤ c → leb c 57 ≡ hex c
 hex-low c h g = go (leb c 57) refl
@@ -35,7 +35,7 @@ hex-none c h = rw (lt-leb 48 c h, lt-leb 65 c (omega arith))
 pub hex-high : (c : ℕ) → 65 ≤ c → leb c 70 ≡ hex c
 hex-high c h = rw (le-leb 48 c (omega arith), lt-leb c 57 (omega arith), le-leb 65 c h)
 
--- up to 9 a hexadecimal digit is a figure, above it a letter
+-- up to 9 a hexadecimal digit is a figure, above it a upperOrDigit
 pub hex-figure : (c : ℕ) → hex c ≡ true → c ≤ 57 → 48 ≤ c
 hex-figure c e h = by-or (digit c) (between 65 70 c) e
     (λ e. by-and (leb 48 c) (leb c 57) e λ a _. leb-true 48 c a)
@@ -50,13 +50,13 @@ hex-letter c e h = by-or (digit c) (between 65 70 c) e
 pub place-authority : (p c : ℕ) → p < 6 → upper c ≡ inPlace p c
 place-authority p c h = rw (lt-ltb p 6 h)
 
-pub place-letter : (p c : ℕ) → 6 ≤ p → p < 12 → letter c ≡ inPlace p c
-place-letter p c g h = rw (le-ltb p 6 g, lt-ltb p 12 h)
+pub place-either : (p c : ℕ) → 6 ≤ p → p < 12 → upperOrDigit c ≡ inPlace p c
+place-either p c g h = rw (le-ltb p 6 g, lt-ltb p 12 h)
 
 pub place-hex : (p c : ℕ) → 12 ≤ p → p < 20 → hex c ≡ inPlace p c
 place-hex p c g h = rw (le-ltb p 6 (omega arith), le-ltb p 12 g, lt-ltb p 20 h)
 
-pub place-type : (p c : ℕ) → 20 ≤ p → p < 22 → letter c ≡ inPlace p c
+pub place-type : (p c : ℕ) → 20 ≤ p → p < 22 → upperOrDigit c ≡ inPlace p c
 place-type p c g h = rw (le-ltb p 6 (omega arith), le-ltb p 12 (omega arith), le-ltb p 20 g, lt-ltb p 22 h)
 
 pub place-country : (p c : ℕ) → 22 ≤ p → upper c ≡ inPlace p c

@@ -17,7 +17,7 @@ use Rattle.header.specs.declared.VersionRead.{VersionRead}
 use Rattle.header.specs.declared.VersionRead.the-variants.{Known, Unknown}
 use Rattle.header.specs.declared.Header.{Header}
 use Rattle.header.specs.declared.HeaderRead.{HeaderRead}
-use Rattle.header.specs.Header.{letter, hex, blank, number, versionChars, perimeterIn, countryIn, Headed}
+use Rattle.header.specs.Header.{upperOrDigit, hex, blank, number, versionChars, perimeterIn, countryIn, Headed}
 
 -- no refusal has the number 0
 abbrev pub verdict : {A : Type 0} → Answer A → Refusal
@@ -26,7 +26,7 @@ verdict (refused k p) = refusal k p
 
 -- may the character c stand at the place p of a header?
 abbrev pub inPlace : (p c : ℕ) → Bool
-inPlace p c = pick (ltb p 6) (upper c) (pick (ltb p 12) (letter c) (pick (ltb p 20) (hex c) (pick (ltb p 22) (letter c) (upper c))))
+inPlace p c = pick (ltb p 6) (upper c) (pick (ltb p 12) (upperOrDigit c) (pick (ltb p 20) (hex c) (pick (ltb p 22) (upperOrDigit c) (upper c))))
 
 -- every character from one place up to another may stand at its place
 abbrev pub Right : List ℕ → (from to : ℕ) → Type 0

@@ -23,8 +23,8 @@ size V04 = 26
 abbrev pub blank : List ℕ
 blank = 0 ∷ 0 ∷ []
 
-abbrev pub letter : ℕ → Bool
-letter c = upper c || digit c
+abbrev pub upperOrDigit : ℕ → Bool
+upperOrDigit c = upper c || digit c
 
 abbrev pub hex : ℕ → Bool
 hex c = digit c || between 65 70 c
@@ -81,11 +81,11 @@ versionChars V04 = 48 ∷ 52 ∷ []
 -- THE HEADER'S PARTS, left to right, behind DC and the version
 unfoldable pub parts : Version → (t : List ℕ) → Answer Header
 parts v t = do
-  authority ← part (upper ∷ upper ∷ letter ∷ letter ∷ []) 4 t
-  certificate ← part (letter ∷ letter ∷ letter ∷ letter ∷ []) 8 t
+  authority ← part (upper ∷ upper ∷ upperOrDigit ∷ upperOrDigit ∷ []) 4 t
+  certificate ← part (upperOrDigit ∷ upperOrDigit ∷ upperOrDigit ∷ upperOrDigit ∷ []) 8 t
   issue ← part (hex ∷ hex ∷ hex ∷ hex ∷ []) 12 t
   signing ← part (hex ∷ hex ∷ hex ∷ hex ∷ []) 16 t
-  doctype ← part (letter ∷ letter ∷ []) 20 t
+  doctype ← part (upperOrDigit ∷ upperOrDigit ∷ []) 20 t
   perimeter ← perimeterIn v t
   country ← countryIn v t
   good (record { version = versionChars v; authority = authority; certificate = certificate; issue = number issue; signing = number signing; doctype = doctype; perimeter = perimeter; country = country })
@@ -108,9 +108,7 @@ readHeader t = do
   check (leb 22 (length t)) header-too-short (length t)
   check (eqb (getD t 0 0) 68 && eqb (getD t 1 0) 67) not-dc 0
   v ← versionOf (getD t 2 0) (getD t 3 0)
-  check (leb (size v) (length t)) header-too-short (length t)
-  header ← parts v t
-  good (record { version = v; header = header })
+  known v t
 
 abbrev pub perimeterOf : Version → Header → List ℕ
 perimeterOf V02 h = []

@@ -7,7 +7,7 @@ ghost use Rattle.refusal.specs.Over.{over};
 ghost use Rattle.refusal.specs.Chars.{charsAt};
 ghost use Rattle.refusal.specs.Answers.{refused};
 ghost use Rattle.dictionary.specs.Dictionary.{upper};
-ghost use Rattle.header.specs.Header.{versionOf, letter, hex, hexValue, hexChar, number, digits, versionChars, size, parts, known, readHeader, headerChars, writeHeader, keptPerimeter, keptCountry};
+ghost use Rattle.header.specs.Header.{versionOf, upperOrDigit, hex, hexValue, hexChar, number, digits, versionChars, size, parts, known, readHeader, headerChars, writeHeader, keptPerimeter, keptCountry};
 ghost use Rattle.header.specs.Code.{inPlace, Right, FirstWrong, versionSays, verdict, perimeterVerdict, countryVerdict, firstOf, tailVerdict, perimeterAt, countryAt, partsAt, headerAnswer};
 
 // The parts of a header, the days of issue and of signing as numbers; a part that the version lacks is two zeros after reading.
@@ -48,8 +48,8 @@ fn is_upper(c: u8) -> bool
     if 65 <= c { c <= 90 } else { false }
 }
 
-fn is_letter(c: u8) -> bool
-    ensures { λ r. ⌜ r ≡ letter c ⌝ }
+fn is_upper_or_digit(c: u8) -> bool
+    ensures { λ r. ⌜ r ≡ upperOrDigit c ⌝ }
 {
     if is_upper(c) {
         return true;
@@ -75,12 +75,16 @@ fn in_place(p: usize, c: u8) -> bool
         return is_upper(c);
     }
     if p < 12 {
-        return is_letter(c);
+        return is_upper_or_digit(c);
     }
     if p < 20 {
         return is_hex(c);
     }
-    if p < 22 { is_letter(c) } else { is_upper(c) }
+    if p < 22 {
+        is_upper_or_digit(c)
+    } else {
+        is_upper(c)
+    }
 }
 
 // The first place of a part whose character is wrong there, or the part's end.

@@ -11,7 +11,7 @@ use lib.ListN.{length, take, drop, length-append, length-drop}
 use lib.Seq.{length-take-le}
 use borrow.Author.Tests.{leb-true, le-leb, ne-eqb, not-true}
 use Rattle.refusal.specs.Answers.{good}
-use Rattle.refusal.specs.Numbers.{no-row, identifier-repeated, fixed-cut, data-too-long, wrong-character, data-too-short}
+use Rattle.refusal.specs.Numbers.{bad-record, identifier-repeated, fixed-cut, data-too-long, wrong-character, data-too-short}
 use Rattle.refusal.proofs.Binds.{never, same-good, by-bind, by-check, by-and, clash}
 use Rattle.refusal.specs.Among.{among}
 use Rattle.dictionary.specs.Dictionary.{Dictionary, allowed, fixed, full, rowAt, distinct, plain, rowsOf}
@@ -111,7 +111,7 @@ pub admitted : (d : Dictionary) (slice : List ℕ) (before : List Field) (i : �
 unfolding writeField
 admitted d slice before i f x e =
     by-bind (rowAt d (f .row) i) _ e λ r er e.
-    by-check (leb (f .start + f .length) (length slice)) no-row i _ e λ fits e.
+    by-check (leb (f .start + f .length) (length slice)) bad-record i _ e λ fits e.
     by-check (not (among (f .row) (rowsOf before))) identifier-repeated i _ e λ once e.
     by-check (not (f .cut && fixed r)) fixed-cut i _ e λ mark e.
     by-check (within (r .greatest) (f .length)) data-too-long i _ e λ limit e.

@@ -18,7 +18,7 @@ use Rattle.dictionary.specs.Dictionary.{between, upper, digit}
 use Rattle.header.specs.declared.Version.{Version}
 use Rattle.header.specs.declared.Version.the-variants.{V02, V03, V04}
 use Rattle.header.specs.declared.Header.{Header}
-use Rattle.header.specs.Header.{size, letter, hex, versionOf, part, hexValue, hexChar, number, digits, perimeter01, perimeterIn, countryIn, versionChars, parts, Headed, known, readHeader, perimeterOf, countryOf, headerChars, writeHeader, Shaped, kept, keptPerimeter, keptCountry}
+use Rattle.header.specs.Header.{size, upperOrDigit, hex, versionOf, part, hexValue, hexChar, number, digits, perimeter01, perimeterIn, countryIn, versionChars, parts, Headed, known, readHeader, perimeterOf, countryOf, headerChars, writeHeader, Shaped, kept, keptPerimeter, keptCountry}
 
 -- the characters of a part stand in the text
 pub part-is : (fs : List (ℕ → Bool)) (p : ℕ) (t x : List ℕ) → part fs p t ≡ good x → p + length fs ≤ length t → (drop p t ≡ x ++ drop (p + length fs) t) × (length x ≡ length fs)
@@ -114,24 +114,24 @@ pub record PartsOf (v : Version) (t : List ℕ) (h : Header) : Type 0 where
   pub issued : List ℕ
   pub signed : List ℕ
   pub version : h .version ≡ versionChars v
-  pub authority : part (upper ∷ upper ∷ letter ∷ letter ∷ []) 4 t ≡ good (h .authority)
-  pub certificate : part (letter ∷ letter ∷ letter ∷ letter ∷ []) 8 t ≡ good (h .certificate)
+  pub authority : part (upper ∷ upper ∷ upperOrDigit ∷ upperOrDigit ∷ []) 4 t ≡ good (h .authority)
+  pub certificate : part (upperOrDigit ∷ upperOrDigit ∷ upperOrDigit ∷ upperOrDigit ∷ []) 8 t ≡ good (h .certificate)
   pub issue : part (hex ∷ hex ∷ hex ∷ hex ∷ []) 12 t ≡ good issued
   pub issue-is : h .issue ≡ number issued
   pub signing : part (hex ∷ hex ∷ hex ∷ hex ∷ []) 16 t ≡ good signed
   pub signing-is : h .signing ≡ number signed
-  pub doctype : part (letter ∷ letter ∷ []) 20 t ≡ good (h .doctype)
+  pub doctype : part (upperOrDigit ∷ upperOrDigit ∷ []) 20 t ≡ good (h .doctype)
   pub perimeter : perimeterIn v t ≡ good (h .perimeter)
   pub country : countryIn v t ≡ good (h .country)
 
 pub parts-of : (v : Version) (t : List ℕ) (h : Header) → parts v t ≡ good h → PartsOf v t h
 unfolding parts
 parts-of v t h e =
-    by-bind (part (upper ∷ upper ∷ letter ∷ letter ∷ []) 4 t) _ e λ au e₁ e.
-    by-bind (part (letter ∷ letter ∷ letter ∷ letter ∷ []) 8 t) _ e λ ce e₂ e.
+    by-bind (part (upper ∷ upper ∷ upperOrDigit ∷ upperOrDigit ∷ []) 4 t) _ e λ au e₁ e.
+    by-bind (part (upperOrDigit ∷ upperOrDigit ∷ upperOrDigit ∷ upperOrDigit ∷ []) 8 t) _ e λ ce e₂ e.
     by-bind (part (hex ∷ hex ∷ hex ∷ hex ∷ []) 12 t) _ e λ is e₃ e.
     by-bind (part (hex ∷ hex ∷ hex ∷ hex ∷ []) 16 t) _ e λ si e₄ e.
-    by-bind (part (letter ∷ letter ∷ []) 20 t) _ e λ ty e₅ e.
+    by-bind (part (upperOrDigit ∷ upperOrDigit ∷ []) 20 t) _ e λ ty e₅ e.
     by-bind (perimeterIn v t) _ e λ pe e₆ e.
     by-bind (countryIn v t) _ e λ co e₇ e.
     rw (← same-good e) (record { issued = is; signed = si; version = refl; authority = e₁; certificate = e₂; issue = e₃; issue-is = refl; signing = e₄; signing-is = refl; doctype = e₅; perimeter = e₆; country = e₇ })
@@ -198,11 +198,11 @@ unfolding parts
 parts-append v t u h =
     let l : 22 ≤ length t = omega (arith, least-size v) in
     rw (
-      part-append (upper ∷ upper ∷ letter ∷ letter ∷ []) 4 t u (omega arith),
-      part-append (letter ∷ letter ∷ letter ∷ letter ∷ []) 8 t u (omega arith),
+      part-append (upper ∷ upper ∷ upperOrDigit ∷ upperOrDigit ∷ []) 4 t u (omega arith),
+      part-append (upperOrDigit ∷ upperOrDigit ∷ upperOrDigit ∷ upperOrDigit ∷ []) 8 t u (omega arith),
       part-append (hex ∷ hex ∷ hex ∷ hex ∷ []) 12 t u (omega arith),
       part-append (hex ∷ hex ∷ hex ∷ hex ∷ []) 16 t u (omega arith),
-      part-append (letter ∷ letter ∷ []) 20 t u (omega arith),
+      part-append (upperOrDigit ∷ upperOrDigit ∷ []) 20 t u (omega arith),
       perimeterIn-append v t u h,
       countryIn-append v t u h,
     )

@@ -8,7 +8,7 @@ use Prim.Native.Nat.{ℕ}
 use native.Mathlib.Omega.{arith}
 use Rattle.refusal.specs.Answers as Answers
 use Rattle.refusal.specs.Limits.{limit, most-fields}
-use Rattle.refusal.specs.Numbers.{pair-outside, unused-value, zone-ends-inside}
+use Rattle.refusal.specs.Numbers.{pair-outside, wrong-value, zone-ends-inside, unknown-identifier}
 use Rattle.refusal.specs.Among.{among}
 use Rattle.codeword.specs.Meanings.{ascii, lone, pair, value, unfinished}
 use Rattle.codeword.specs.Sizes.{capacities}
@@ -51,16 +51,18 @@ pub record Starred : Type 0 where
       ∷ good (90 ∷ 90 ∷ 90 ∷ []) 3 false
       ∷ refused pair-outside 1
       ∷ refused pair-outside 1
-      ∷ refused unused-value 3
+      ∷ refused wrong-value 3
       ∷ []
-  -- Zones: 6XPARIS(29)6YFR and 6Q01234567896YFR are two fields; 6XPARIS is refused 17.
+  -- Zones: 6XPARIS(29)6YFR and 6Q01234567896YFR are two fields; with a (29) before 6Y it is refused 16; 6XPARIS is refused 17.
   pub zones : map (zone five most-fields [] 0)
       ((54 ∷ 88 ∷ 80 ∷ 65 ∷ 82 ∷ 73 ∷ 83 ∷ 29 ∷ 54 ∷ 89 ∷ 70 ∷ 82 ∷ [])
       ∷ (54 ∷ 81 ∷ 48 ∷ 49 ∷ 50 ∷ 51 ∷ 52 ∷ 53 ∷ 54 ∷ 55 ∷ 56 ∷ 57 ∷ 54 ∷ 89 ∷ 70 ∷ 82 ∷ [])
+      ∷ (54 ∷ 81 ∷ 48 ∷ 49 ∷ 50 ∷ 51 ∷ 52 ∷ 53 ∷ 54 ∷ 55 ∷ 56 ∷ 57 ∷ 29 ∷ 54 ∷ 89 ∷ 70 ∷ 82 ∷ [])
       ∷ (54 ∷ 88 ∷ 80 ∷ 65 ∷ 82 ∷ 73 ∷ 83 ∷ [])
       ∷ [])
       ≡ Answers.good (field 2 2 5 ∷ field 3 10 2 ∷ [])
       ∷ Answers.good (field 0 2 10 ∷ field 3 14 2 ∷ [])
+      ∷ Answers.refused unknown-identifier 12
       ∷ Answers.refused zone-ends-inside 0
       ∷ []
 

@@ -21,7 +21,7 @@ use Rattle.codeword.specs.Meanings.{ascii, lone, unfinished}
 use Rattle.codeword.specs.Reading.{Reading, good, refused, tick, behind, give, onAscii, Mode, inAscii, inC40, read}
 use Rattle.codeword.specs.Characters.{setOf}
 use Rattle.optimum.specs.Cost.{State, asc, dig, d0, d1, d2, fil, fin, inf, digit, forms, base, chars, pairs, before, cost}
-use Rattle.optimum.specs.Write.{odd, fits, Move, one, two, none, pair, letter, move, run, write}
+use Rattle.optimum.specs.Write.{odd, fits, Move, one, two, none, pair, character, move, run, write}
 use Rattle.optimum.proofs.Values.{Chars, Bytes}
 use Rattle.optimum.proofs.Codes.{ascii-one, ascii-two, two-byte, lone-last}
 use Rattle.optimum.proofs.Accepted.{Front, from-give, front}
@@ -175,7 +175,7 @@ module _ (b : Bool) (n : ℕ) (small : n < 2000) where
   on-two c d t hs h false y z p q r = go-char c (d ∷ t) hs (by-no-digit c (cost b (d ∷ t)) (odd n) h p)
 
   go-letter :
-      (t : List ℕ) → Chars t → n < cost b t d0 (odd n) → cost b t asc (not (odd n)) ≤ suc n → Leads b (suc n) inAscii t (letter b n t)
+      (t : List ℕ) → Chars t → n < cost b t d0 (odd n) → cost b t asc (not (odd n)) ≤ suc n → Leads b (suc n) inAscii t (character b n t)
   go-letter [] hs h g = absurd (no-end b (odd n) (odd-pos n) h g)
   go-letter (c ∷ []) hs h g = go-char c [] hs (by-char c (cost b []) (odd n) (no-latch c [] (odd n) h g) (end-dig (odd n)))
   go-letter (c ∷ d ∷ t) hs h g =
@@ -185,7 +185,7 @@ module _ (b : Bool) (n : ℕ) (small : n < 2000) where
   unfolding move odd read ascii
   go-ascii t hs h = go (fits b t d0 n) refl
     where
-      go : (x : Bool) → fits b t d0 n ≡ x → Leads b (suc n) inAscii t (pick x (one 230 (inC40 Basic) t) (letter b n t))
+      go : (x : Bool) → fits b t d0 n ≡ x → Leads b (suc n) inAscii t (pick x (one 230 (inC40 Basic) t) (character b n t))
       go true e = record { bound = leb-true _ _ e; chars = hs; bytes = (omega arith, tt); reads = λ ws q. rw q }
       go false e = go-letter t hs (leb-false _ _ e) h
 

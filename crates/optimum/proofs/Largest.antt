@@ -27,7 +27,7 @@ use Rattle.codeword.specs.Reading.{Reading, good, refused, cons, tick, Step, en
 use Rattle.codeword.specs.Reading.{inAscii, inC40, read}
 use Rattle.codeword.specs.Best.{_≼_, none-differs, differs, equals}
 use Rattle.optimum.specs.Cost.{asc, d0, digit, cost}
-use Rattle.optimum.specs.Write.{odd, fits, next, third, Move, one, two, none, pack, pair, letter, lastOne, move, run, write}
+use Rattle.optimum.specs.Write.{odd, fits, next, third, Move, one, two, none, pack, pair, character, lastOne, move, run, write}
 use Rattle.optimum.proofs.Values.{Chars, Bytes}
 use Rattle.optimum.proofs.Codes.{is-one, Digits, is-two, is-latch, is-ends, is-last, Packed, is-three}
 use Rattle.optimum.proofs.Accepted.{Front, from-give, from-finish, one-value, two-values, three-values, Twice, from-values, front}
@@ -61,7 +61,7 @@ untick (good t′ n′ b′) t n b e = cc
 module _ (b : Bool) (n : ℕ) (w : ℕ) (ws : List ℕ) where
   under-letter :
       (c : ℕ) (t : List ℕ) → (w ≡ suc c) × (w ≤ 128) → read ws inAscii (length t) ≡ good t n b →
-      Under b (suc n) (letter b n (c ∷ t)) (w ∷ ws)
+      Under b (suc n) (character b n (c ∷ t)) (w ∷ ws)
   under-letter c [] h q = inr (h .0, q)
   under-letter c (d ∷ t) h q = go (digit c && digit d && fits b t asc n)
     where
@@ -73,7 +73,7 @@ module _ (b : Bool) (n : ℕ) (w : ℕ) (ws : List ℕ) where
 
   -- in front of the text t, where the writer tests for 230 first
   abbrev Goal : Bool → List ℕ → Type 0
-  Goal x t = Under b (suc n) (pick x (one 230 (inC40 Basic) t) (letter b n t)) (w ∷ ws)
+  Goal x t = Under b (suc n) (pick x (one 230 (inC40 Basic) t) (character b n t)) (w ∷ ws)
 
   under-one : (c : ℕ) (t : List ℕ) → (w ≡ suc c) × (w ≤ 128) → read ws inAscii (length t) ≡ good t n b → (x : Bool) → Goal x (c ∷ t)
   under-one c t h q true = inl (omega (arith, h .1))

@@ -76,10 +76,10 @@ pair b n s t =
     two (pack x y z / 256) (pack x y z % 256) (inC40 s₃) t₃
 
 -- a character, or two digits where the n codewords behind them do
-abbrev pub letter : Bool → ℕ → List ℕ → Move
-letter b n [] = none
-letter b n (c ∷ []) = one (suc c) inAscii []
-letter b n (c ∷ d ∷ t) =
+abbrev pub character : Bool → ℕ → List ℕ → Move
+character b n [] = none
+character b n (c ∷ []) = one (suc c) inAscii []
+character b n (c ∷ d ∷ t) =
     pick (digit c && digit d && fits b t asc n) (one (130 + (10 * (c - 48) + (d - 48))) inAscii t) (one (suc c) inAscii (d ∷ t))
 
 abbrev pub lastOne : List ℕ → Move
@@ -89,7 +89,7 @@ lastOne (c ∷ t) = one (suc c) inAscii t
 -- the move with n codewords left, in front of b's end (`true`: a pad follows)
 unfoldable pub move : Bool → ℕ → Mode → List ℕ → Move
 move b zero m t = none
-move b (suc n) inAscii t = pick (fits b t d0 n) (one 230 (inC40 Basic) t) (letter b n t)
+move b (suc n) inAscii t = pick (fits b t d0 n) (one 230 (inC40 Basic) t) (character b n t)
 move false (suc zero) (inC40 s) t = lastOne t
 move true (suc zero) (inC40 s) t = one 254 inAscii t
 move b (suc (suc n)) (inC40 s) t = pick (not (unfinished s) && fits b t asc (suc n)) (one 254 inAscii t) (pair b n s t)

@@ -6,8 +6,9 @@ use mathlib.Core.List.{List}
 use mathlib.Core.Path.{_≡_, refl, _∙_, ap}
 use lib.ListN.{length, take, drop, replicate}
 use lib.Seq.{length-take-le, take-at, take-length}
+use Rattle.dictionary.specs.Dictionary.{noField}
 use Rattle.dictionary.specs.declared.Field.{Field}
-use Rattle.records.specs.Lists.{noField, pasted, byValue}
+use Rattle.records.specs.Lists.{pasted, byValue}
 
 pub by-value-count : (l : List Field) → byValue l .count ≡ length l
 unfolding byValue

@@ -1,15 +1,11 @@
 -- What a lent list holds after records were stored into it.
 use Prim.Native.Nat.{ℕ, min}
-use mathlib.Core.Bool.{false}
 use mathlib.Core.List.{List, _++_}
 use lib.ListN.{length, take, drop, set, replicate}
+use Rattle.dictionary.specs.Dictionary.{noField}
 use Rattle.dictionary.specs.declared.Field.{Field}
 use Rattle.dictionary.specs.declared.Fields.{Fields}
 use Rattle.refusal.specs.Limits.{most-fields}
-
--- a record of zeros
-abbrev pub noField : Field
-noField = record { row = 0; cut = false; start = 0; length = 0 }
 
 -- the first n of `from`, and the list as it was behind them
 abbrev pub pasted : (from list : List Field) → ℕ → List Field

@@ -4,15 +4,17 @@ use conformity::Conformity;
 use dictionary::Field;
 use dictionary::Fields;
 ghost use mathlib.Core.Path.{_≡_};
-ghost use Prim.Native.Nat.{_<_, _≤_, min};
+ghost use Prim.Native.Nat.{_<_, _≤_};
 ghost use lib.ListN.{length, getD};
+ghost use Rattle.refusal.specs.Limits.{most-fields};
+ghost use Rattle.dictionary.specs.Dictionary.{noField};
 ghost use Rattle.conformity.specs.Conformity.{conforms};
 ghost use Rattle.conformity.specs.Noted.{answered};
-ghost use Rattle.records.specs.Lists.{noField, noFields, pasted, withRecord, byValue};
+ghost use Rattle.records.specs.Lists.{noFields, pasted, withRecord, byValue};
 
 // The record at i, if it counts or not.
 fn record_at(f: Fields, i: usize) -> Field
-    requires { ⌜ i < 64 ⌝ }
+    requires { ⌜ i < most-fields ⌝ }
     ensures { λ r. ⌜ r ≡ getD (f .list) i noField ⌝ }
 {
     let x = f.list[i];
@@ -21,7 +23,7 @@ fn record_at(f: Fields, i: usize) -> Field
 
 // "a thin function stores each field record into a lent slice of structs"
 pub fn put_all(list: &mut [Field], f: Fields)
-    requires { ⌜ (f .count ≤ 64) × (f .count ≤ length (now list)) ⌝ }
+    requires { ⌜ (f .count ≤ most-fields) × (f .count ≤ length (now list)) ⌝ }
     ensures { λ _. ⌜ now (list .exit) ≡ pasted (f .list) (now (list .entry)) (f .count) ⌝ }
 {
     let n = f.count;
@@ -48,16 +50,6 @@ pub fn conforms_list(type0: u8, type1: u8, list: &[Field]) -> Conformity
     conformity::decide(s)
 }
 
-// How many records of a list a message can hold.
-fn at_most_64(n: usize) -> usize
-    ensures { λ r. ⌜ r ≡ min n 64 ⌝ }
-{
-    if n < 64 {
-        return n;
-    }
-    64
-}
-
 // Fields of zeros, counted as n.
 fn no_fields(n: usize) -> Fields
     ensures { λ r. ⌜ r ≡ noFields n ⌝ }
@@ -69,14 +61,14 @@ fn no_fields(n: usize) -> Fields
         length: 0,
     };
     Fields {
-        list: [none; 64],
+        list: [none; refusal::MOST_FIELDS],
         count: n,
     }
 }
 
 // The fields with x at i.
 fn with_record(f: Fields, i: usize, x: Field) -> Fields
-    requires { ⌜ i < 64 ⌝ }
+    requires { ⌜ i < most-fields ⌝ }
     ensures { λ r. ⌜ r ≡ withRecord f i x ⌝ }
 {
     let mut next = f;
@@ -89,7 +81,7 @@ pub fn take_fields(list: &[Field]) -> Fields
     ensures { λ r. ⌜ r ≡ byValue (now (list .entry)) ⌝ }
 {
     let n = list.len();
-    let end = at_most_64(n);
+    let end = dictionary::held(n);
     let mut f = no_fields(n);
     let mut at = 0;
     while at < end {

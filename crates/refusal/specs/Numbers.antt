@@ -3,8 +3,8 @@ use Prim.Native.Nat.{ℕ}
 use Rattle.refusal.specs.declared.Refusal.{Refusal}
 
 -- codeword count is no capacity
-abbrev pub no-capacity : ℕ
-no-capacity = 1
+abbrev pub count-no-capacity : ℕ
+count-no-capacity = 1
 
 -- codeword forbidden in its place
 abbrev pub forbidden-codeword : ℕ
@@ -15,8 +15,8 @@ abbrev pub pair-outside : ℕ
 pair-outside = 3
 
 -- value unused in its set, or shift 2 or 3 unfinished
-abbrev pub unused-value : ℕ
-unused-value = 4
+abbrev pub wrong-value : ℕ
+wrong-value = 4
 
 -- more than 1,000 characters
 abbrev pub text-too-long : ℕ
@@ -31,8 +31,8 @@ abbrev pub character-above-127 : ℕ
 character-above-127 = 7
 
 -- permitted size is no capacity
-abbrev pub not-a-capacity : ℕ
-not-a-capacity = 8
+abbrev pub largest-no-capacity : ℕ
+largest-no-capacity = 8
 
 -- no permitted size fits
 abbrev pub no-size-fits : ℕ
@@ -123,8 +123,8 @@ abbrev pub identifier-not-permitted : ℕ
 identifier-not-permitted = 30
 
 -- writing: a record names no row, or its start plus length passes its slice's length
-abbrev pub no-row : ℕ
-no-row = 31
+abbrev pub bad-record : ℕ
+bad-record = 31
 
 abbrev pub refusal : (number place : ℕ) → Refusal
 refusal n p = record { number = n; place = p }

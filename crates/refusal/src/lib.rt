@@ -20,13 +20,13 @@ pub fn accepted() -> Refusal
     }
 }
 
-pub const NO_CAPACITY: u8 = 1;
+pub const COUNT_NO_CAPACITY: u8 = 1;
 
 pub const FORBIDDEN_CODEWORD: u8 = 2;
 
 pub const PAIR_OUTSIDE: u8 = 3;
 
-pub const UNUSED_VALUE: u8 = 4;
+pub const WRONG_VALUE: u8 = 4;
 
 pub const TEXT_TOO_LONG: u8 = 5;
 
@@ -34,7 +34,7 @@ pub const LENT_TOO_SHORT: u8 = 6;
 
 pub const CHARACTER_ABOVE_127: u8 = 7;
 
-pub const NOT_A_CAPACITY: u8 = 8;
+pub const LARGEST_NO_CAPACITY: u8 = 8;
 
 pub const NO_SIZE_FITS: u8 = 9;
 
@@ -80,7 +80,7 @@ pub const IDENTIFIER_MISSING: u8 = 29;
 
 pub const IDENTIFIER_NOT_PERMITTED: u8 = 30;
 
-pub const NO_ROW: u8 = 31;
+pub const BAD_RECORD: u8 = 31;
 
 // A text has at most 1,000 characters.
 pub const LIMIT: usize = 1000;

@@ -2,6 +2,7 @@
 ghost use mathlib.Core.Path.{_≡_};
 ghost use Prim.Native.Nat.{_<_, _≤_};
 ghost use lib.ListN.{length};
+ghost use Rattle.refusal.specs.Limits.{most-fields};
 use conformity::Conformity;
 use dictionary::Field;
 use dictionary::Fields;
@@ -152,7 +153,7 @@ fn symbols_read() {
 }
 
 fn field_at(f: Fields, i: usize) -> Field
-    requires { ⌜ i < 64 ⌝ }
+    requires { ⌜ i < most-fields ⌝ }
 {
     f.list[i]
 }
@@ -160,7 +161,7 @@ fn field_at(f: Fields, i: usize) -> Field
 // Row, start and length of each field.
 fn show_fields(f: Fields) {
     let mut i = 0;
-    while i < 64 {
+    while i < refusal::MOST_FIELDS {
         if f.count <= i {
             return;
         }
@@ -210,7 +211,7 @@ fn show_message(r: TextRead) {
 }
 
 fn show_text_read(text: &[u8]) {
-    let r = text_reader::read_text(text, 64);
+    let r = text_reader::read_text(text, refusal::MOST_FIELDS);
     let outcome = r.outcome;
     match outcome {
         Outcome::Accepted => show_message(r),

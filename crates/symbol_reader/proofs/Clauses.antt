@@ -9,7 +9,7 @@ use native.Mathlib.Omega.{arith}
 use lib.ListN.{length, take, drop, getD}
 use borrow.Author.Tests.{eq-eqb, ne-eqb}
 use Rattle.refusal.specs.Limits.{limit}
-use Rattle.refusal.specs.Numbers.{forbidden-codeword, unused-value}
+use Rattle.refusal.specs.Numbers.{forbidden-codeword, wrong-value}
 use Rattle.codeword.specs.declared.Set.{Set}
 use Rattle.codeword.specs.declared.Set.the-variants.{Basic}
 use Rattle.codeword.specs.declared.Ascii.{Ascii}
@@ -44,7 +44,7 @@ module _ (s : Set) where
   lone-c40 (a ∷ []) r x u h e = rw (u, e)
   lone-c40 (a ∷ b ∷ l) r x u h e = absurd (omega arith)
 
-  last-shut : (l : List ℕ) (r : ℕ) → unfinished s ≡ true → length l < 2 → read l (inC40 s) r ≡ refused unused-value 0
+  last-shut : (l : List ℕ) (r : ℕ) → unfinished s ≡ true → length l < 2 → read l (inC40 s) r ≡ refused wrong-value 0
   unfolding read
   last-shut [] r u h = rw u
   last-shut (a ∷ []) r u h = rw u
@@ -56,7 +56,7 @@ module _ (s : Set) where
   back-c40 (a ∷ []) r u h e = absurd (omega arith)
   back-c40 (a ∷ b ∷ l) r u h e = rw (eq-eqb a 254 e, u)
 
-  back-shut : (l : List ℕ) (r : ℕ) → unfinished s ≡ true → 2 ≤ length l → getD l 0 0 ≡ 254 → read l (inC40 s) r ≡ refused unused-value 0
+  back-shut : (l : List ℕ) (r : ℕ) → unfinished s ≡ true → 2 ≤ length l → getD l 0 0 ≡ 254 → read l (inC40 s) r ≡ refused wrong-value 0
   unfolding read
   back-shut [] r u h e = absurd (omega arith)
   back-shut (a ∷ []) r u h e = absurd (omega arith)
@@ -88,8 +88,8 @@ module _ (l : List ℕ) (p n : ℕ) (b : List ℕ) where
   ascii-wrong h e = sym (after-refused (take n b) p forbidden-codeword) ∙ ascii-is Wrong h e
 
   module _ (s : Set) where
-    pub c40-unfinished : unfinished s ≡ true → length l < 2 → refused-at unused-value p ≡ reading l (inC40 s) p n b
-    c40-unfinished u h = sym (ap (after (take n b) p) (last-shut s l (limit - n) u h) ∙ after-refused (take n b) p unused-value)
+    pub c40-unfinished : unfinished s ≡ true → length l < 2 → refused-at wrong-value p ≡ reading l (inC40 s) p n b
+    c40-unfinished u h = sym (ap (after (take n b) p) (last-shut s l (limit - n) u h) ∙ after-refused (take n b) p wrong-value)
 
     pub c40-ends : unfinished s ≡ false → length l ≡ 0 → whole (take n b) p ≡ reading l (inC40 s) p n b
     c40-ends u h = sym (ap (after (take n b) p) (none-c40 s l (limit - n) u h) ∙ after-end-here (take n b) p false)
@@ -108,8 +108,8 @@ module _ (l : List ℕ) (p n : ℕ) (b : List ℕ) where
     c40-back u h e =
         sym (ap (after (take n b) p) (back-c40 s l (limit - n) u h e) ∙ after-tick (take n b) p (read (drop 1 l) inAscii (limit - n)))
 
-    pub c40-back-unfinished : unfinished s ≡ true → 2 ≤ length l → getD l 0 0 ≡ 254 → refused-at unused-value p ≡ reading l (inC40 s) p n b
-    c40-back-unfinished u h e = sym (ap (after (take n b) p) (back-shut s l (limit - n) u h e) ∙ after-refused (take n b) p unused-value)
+    pub c40-back-unfinished : unfinished s ≡ true → 2 ≤ length l → getD l 0 0 ≡ 254 → refused-at wrong-value p ≡ reading l (inC40 s) p n b
+    c40-back-unfinished u h e = sym (ap (after (take n b) p) (back-shut s l (limit - n) u h e) ∙ after-refused (take n b) p wrong-value)
 
     pub c40-pair : 2 ≤ length l → (getD l 0 0 ≡ 254 → ⊥)
         → after (take n b) p (onPair (pair (getD l 0 0) (getD l 1 0)) s (λ s′. read (drop 2 l) (inC40 s′)) (limit - n)) ≡ reading l (inC40 s) p n b

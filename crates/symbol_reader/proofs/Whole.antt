@@ -11,7 +11,7 @@ use lib.Seq.{length-take-le, take-all}
 use borrow.Author.Tests.{le-leb, lt-leb}
 use Rattle.refusal.specs.declared.Refusal.{Refusal}
 use Rattle.refusal.specs.Limits.{limit}
-use Rattle.refusal.specs.Numbers.{refusal, no-capacity, lent-too-short}
+use Rattle.refusal.specs.Numbers.{refusal, count-no-capacity, lent-too-short}
 use Rattle.codeword.specs.Sizes.{isCapacity}
 use Rattle.codeword.specs.Reading.{Reading, good, refused, inAscii, read, readSymbol}
 use Rattle.symbol_reader.specs.declared.SymbolRead.{SymbolRead}
@@ -19,7 +19,7 @@ use Rattle.symbol_reader.specs.declared.SymbolRead.the-variants.{Text, R
 use Rattle.symbol_reader.specs.Answers.{answered, lentAfter}
 use Rattle.symbol_reader.specs.Steps.{Whole, whole, refused-at, after, says, lengthOf}
 
-pub is-no-capacity : (l : List ℕ) (lent : ℕ) → isCapacity (length l) ≡ false → refused no-capacity 0 ≡ readSymbol l lent
+pub is-no-capacity : (l : List ℕ) (lent : ℕ) → isCapacity (length l) ≡ false → refused count-no-capacity 0 ≡ readSymbol l lent
 unfolding readSymbol
 is-no-capacity l lent e = simp e
 

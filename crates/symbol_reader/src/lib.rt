@@ -76,7 +76,7 @@ fn put_value(text: &mut [u8], n: usize, set: Set, v: u8) -> Put
     match meaning {
         Value::Char(c) => put_char(text, n, c),
         Value::Shift(s) => Put::On(n, s),
-        Value::Unused => Put::Bad(refusal::UNUSED_VALUE),
+        Value::Unused => Put::Bad(refusal::WRONG_VALUE),
     }
 }
 
@@ -136,7 +136,7 @@ fn ascii_step(codewords: &[u8], place: usize, text: &mut [u8], n: usize) -> Next
     ensures says { λ r. ⌜ nextSays 1 (now (codewords .entry)) place r (now (text .exit)) ≡ reading (now (codewords .entry)) inAscii place n (now (text .entry)) ⌝ }
     ensures fits { λ r. ⌜ NextFits 1 (length (now (codewords .entry))) r ⌝ }
 {
-    if codewords.len() == 0 {
+    if codewords.len() < 1 {
         return Next::Done(SymbolRead::Text(n, place));
     }
     let meaning = codeword::ascii_of(codewords[0]);
@@ -157,7 +157,7 @@ fn c40_end(codewords: &[u8], place: usize, text: &mut [u8], n: usize, set: Set) 
     ensures fits { λ r. ⌜ NextFits 2 (length (now (codewords .entry))) r ⌝ }
 {
     if codeword::is_unfinished(set) {
-        return refuse(refusal::UNUSED_VALUE, place);
+        return refuse(refusal::WRONG_VALUE, place);
     }
     if codewords.len() == 0 {
         return Next::Done(SymbolRead::Text(n, place));
@@ -182,7 +182,7 @@ fn c40_step(codewords: &[u8], place: usize, text: &mut [u8], n: usize, set: Set)
     let a = codewords[0];
     if a == 254 {
         if codeword::is_unfinished(set) {
-            return refuse(refusal::UNUSED_VALUE, place);
+            return refuse(refusal::WRONG_VALUE, place);
         }
         return Next::Ascii(n);
     }
@@ -254,7 +254,7 @@ pub fn read_symbol(codewords: &[u8], text: &mut [u8]) -> SymbolRead
 {
     if !codeword::is_capacity(codewords.len()) {
         return SymbolRead::Refused(Refusal {
-            number: refusal::NO_CAPACITY,
+            number: refusal::COUNT_NO_CAPACITY,
             place: 0,
         });
     }

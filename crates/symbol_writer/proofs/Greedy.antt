@@ -19,7 +19,7 @@ use Rattle.codeword.specs.Reading.{inAscii, inC40}
 use Rattle.codeword.proofs.Characters.{number-low}
 use Rattle.codeword.specs.Numbered.{isBasic}
 use Rattle.optimum.specs.Cost.{asc, d0, d1, digit}
-use Rattle.optimum.specs.Write.{fits, val, stuck, next, third, one, two, none, pack, pair, letter, move}
+use Rattle.optimum.specs.Write.{fits, val, stuck, next, third, one, two, none, pack, pair, character, move}
 use Rattle.symbol_writer.specs.declared.moves.NextValue.{NextValue}
 use Rattle.symbol_writer.specs.declared.moves.NextValue.the-variants.{Value, Ended}
 use Rattle.symbol_writer.specs.declared.moves.Mode.{Mode}
@@ -173,11 +173,11 @@ pub both-hold : (x y p q z : Bool) → x ≡ p → x ≡ true → y ≡ q → y 
 both-hold x y p q z e f g h = rw (← e, f, ← g, h)
 
 module _ (b : Bool) (t : List ℕ) (i n : ℕ) where
-  pub letter-none : i ≡ length t → none ≡ letter b n (drop i t)
-  letter-none e = rw (e, drop-length t)
+  pub character-none : i ≡ length t → none ≡ character b n (drop i t)
+  character-none e = rw (e, drop-length t)
 
-  pub letter-last : i + 1 ≡ length t → one (getD t i 0 + 1) inAscii (drop (i + 1) t) ≡ letter b n (drop i t)
-  letter-last e =
+  pub character-last : i + 1 ≡ length t → one (getD t i 0 + 1) inAscii (drop (i + 1) t) ≡ character b n (drop i t)
+  character-last e =
       let g : drop (i + 1) t ≡ [] = ap (λ k. drop k t) e ∙ drop-length t in
       rw (here t i (omega arith), g, add-one (getD t i 0))
 
@@ -191,11 +191,11 @@ module _ (b : Bool) (t : List ℕ) (i n : ℕ) where
     chosen =
         ap (λ y. digit (getD t i 0) && digit (getD t (i + 1) 0) && y) (ap (λ k. leb k n) (sym (look-ascii b t w w F (i + 2) (omega arith) n)) ∙ sym ez) ∙ sym ex
 
-    pub letter-two : x ≡ true → (v : ℕ) → v ≡ 130 + (10 * (getD t i 0 - 48) + (getD t (i + 1) 0 - 48)) → one v inAscii (drop (i + 2) t) ≡ letter b n (drop i t)
-    letter-two e v q = rw (two-on, chosen, e, q)
+    pub character-two : x ≡ true → (v : ℕ) → v ≡ 130 + (10 * (getD t i 0 - 48) + (getD t (i + 1) 0 - 48)) → one v inAscii (drop (i + 2) t) ≡ character b n (drop i t)
+    character-two e v q = rw (two-on, chosen, e, q)
 
-    pub letter-one : x ≡ false → one (getD t i 0 + 1) inAscii (drop (i + 1) t) ≡ letter b n (drop i t)
-    letter-one e =
+    pub character-one : x ≡ false → one (getD t i 0 + 1) inAscii (drop (i + 1) t) ≡ character b n (drop i t)
+    character-one e =
         let e′ : i + 1 + 1 ≡ i + 2 = omega arith in
         rw (two-on, chosen, e, here t (i + 1) low, e′, add-one (getD t i 0))
 
@@ -209,7 +209,7 @@ module _ (b : Bool) (t w : List ℕ) (F : Filled b t w w 0) (i : ℕ) (low : i �
     unfolding move
     latched e = rw (room true e)
 
-    pub not-latched : x ≡ false → letter b n (drop i t) ≡ move b (suc n) inAscii (drop i t)
+    pub not-latched : x ≡ false → character b n (drop i t) ≡ move b (suc n) inAscii (drop i t)
     unfolding move
     not-latched e = rw (room false e)
 

@@ -12,7 +12,7 @@ use lib.ListN.{length, drop}
 use borrow.Author.Tests.{ltb-true, ltb-false}
 use Rattle.refusal.specs.Limits.{limit}
 use Rattle.refusal.specs.Pick.{pick}
-use Rattle.refusal.specs.Numbers.{refusal, text-too-long, lent-too-short, character-above-127, not-a-capacity}
+use Rattle.refusal.specs.Numbers.{refusal, text-too-long, lent-too-short, character-above-127, largest-no-capacity}
 use Rattle.codeword.specs.Sizes.{capacities, isCapacity}
 use Rattle.codeword.specs.Best.{used, Best, NoneFits}
 use Rattle.codeword.specs.Reading.{inAscii}
@@ -72,7 +72,7 @@ module _ (t : List ℕ) (largest : ℕ) (old new : List ℕ) (r : SymbolWritten)
           (pick b (Answer.refused character-above-127 (firstAbove t))
           (pick c
           (pick d (Answer.refused lent-too-short 0) (inSize (length old) t (choose capacities largest t)))
-          (Answer.refused not-a-capacity 0)))
+          (Answer.refused largest-no-capacity 0)))
 
       is : (number place : ℕ) → Type 0
       is k p = (r ≡ Refused (refusal k p)) × (new ≡ old)
@@ -80,7 +80,7 @@ module _ (t : List ℕ) (largest : ℕ) (old new : List ℕ) (r : SymbolWritten)
       go : (a b c d : Bool) → ltb limit (length t) ≡ a → ltb (firstAbove t) (length t) ≡ b → r ≡ answered (answer a b c d)
           → new ≡ symbolAfter (answer a b c d) old
           → pick a (is text-too-long 0) (pick b (is character-above-127 (firstAbove t))
-          (pick c (pick d (is lent-too-short 0) (Chosen t largest old new r)) (is not-a-capacity 0)))
+          (pick c (pick d (is lent-too-short 0) (Chosen t largest old new r)) (is largest-no-capacity 0)))
       go true b c d p q e f = (e, f)
       go false true c d p q e f = (e, f)
       go false false false d p q e f = (e, f)
@@ -102,7 +102,7 @@ left-as-promised t largest room old =
         (pick b (Answer.refused character-above-127 (firstAbove t))
         (pick c
         (pick d (Answer.refused lent-too-short 0) (inSize room t (choose capacities largest t)))
-        (Answer.refused not-a-capacity 0)))) old
+        (Answer.refused largest-no-capacity 0)))) old
         ≡ pick (a || (b || (not c || d))) old (zeros workRoom ++ drop workRoom old)
     go true b c d = refl
     go false true c d = refl
@@ -153,11 +153,11 @@ module _ (t : List ℕ) (largest : ℕ) (old : List ℕ) where
       says a b c d new r =
           pick a (is text-too-long 0 new r)
           (pick b (is character-above-127 (firstAbove t) new r)
-          (pick c (pick d (is lent-too-short 0 new r) (Chosen t largest old new r)) (is not-a-capacity 0 new r)))
+          (pick c (pick d (is lent-too-short 0 new r) (Chosen t largest old new r)) (is largest-no-capacity 0 new r)))
 
       go : (a b c d : Bool) → says a b c d new r → says a b c d new′ r′ → (r ≡ r′) × (new ≡ new′)
       go true b c d x y = same text-too-long 0 x y
       go false true c d x y = same character-above-127 (firstAbove t) x y
-      go false false false d x y = same not-a-capacity 0 x y
+      go false false false d x y = same largest-no-capacity 0 x y
       go false false true true x y = same lent-too-short 0 x y
       go false false true false x y = only-chosen new new′ r r′ x y

@@ -11,7 +11,7 @@ use lib.ListN.{length, take, drop, getD, set, length-append, List·getD-eq-defau
 use lib.Seq.{drop-cons, drop-length, drop-at, take-at}
 use borrow.Author.Tests.{lt-ltb, le-ltb, ltb-false}
 use Rattle.refusal.specs.Pick.{pick}
-use Rattle.refusal.specs.Numbers.{refusal, text-too-long, lent-too-short, character-above-127, not-a-capacity, no-size-fits}
+use Rattle.refusal.specs.Numbers.{refusal, text-too-long, lent-too-short, character-above-127, largest-no-capacity, no-size-fits}
 use Rattle.refusal.specs.Limits.{limit}
 use Rattle.codeword.specs.Sizes.{capacities, isCapacity}
 use Rattle.codeword.specs.Reading.{inAscii}
@@ -120,7 +120,7 @@ module _ (t : List ℕ) (largest work room : ℕ) where
     too-high h = rw (le-ltb limit (length t) short, lt-ltb (firstAbove t) (length t) h)
 
     module _ (low : length t ≤ firstAbove t) where
-      pub no-size : isCapacity largest ≡ false → writeSymbol t largest work room ≡ refused not-a-capacity 0
+      pub no-size : isCapacity largest ≡ false → writeSymbol t largest work room ≡ refused largest-no-capacity 0
       unfolding writeSymbol
       no-size e = rw (le-ltb limit (length t) short, le-ltb (firstAbove t) (length t) low, e)
 

@@ -8,7 +8,7 @@ use lib.Dec.{ltb}
 use lib.ListN.{length, drop}
 use Rattle.refusal.specs.Limits.{limit}
 use Rattle.refusal.specs.Pick.{pick}
-use Rattle.refusal.specs.Numbers.{refusal, text-too-long, lent-too-short, character-above-127, not-a-capacity, no-size-fits}
+use Rattle.refusal.specs.Numbers.{refusal, text-too-long, lent-too-short, character-above-127, largest-no-capacity, no-size-fits}
 use Rattle.codeword.specs.Sizes.{isCapacity}
 use Rattle.codeword.specs.Best.{used, Best, NoneFits}
 use Rattle.symbol_writer.specs.declared.SymbolWritten.{SymbolWritten}
@@ -48,7 +48,7 @@ Promised t largest work old new r =
     (pick (ltb (firstAbove t) (length t)) (Refuses character-above-127 (firstAbove t) old new r)
     (pick (isCapacity largest)
     (pick (ltb work workRoom) (Refuses lent-too-short 0 old new r) (Chosen t largest old new r))
-    (Refuses not-a-capacity 0 old new r)))
+    (Refuses largest-no-capacity 0 old new r)))
 
 -- 5, 7, 8, and 6 for the work slice
 abbrev pub refusedEarly : (t : List ℕ) (largest work : ℕ) → Bool

@@ -5,7 +5,7 @@ use mathlib.Core.Path.{_≡_}
 use lib.Dec.{ltb}
 use lib.ListN.{length, drop, replicate}
 use Rattle.refusal.specs.Pick.{pick}
-use Rattle.refusal.specs.Numbers.{refusal, text-too-long, lent-too-short, character-above-127, not-a-capacity, no-size-fits}
+use Rattle.refusal.specs.Numbers.{refusal, text-too-long, lent-too-short, character-above-127, largest-no-capacity, no-size-fits}
 use Rattle.refusal.specs.Limits.{limit}
 use Rattle.codeword.specs.Sizes.{capacities, isCapacity}
 use Rattle.codeword.specs.Reading.{inAscii}
@@ -42,7 +42,7 @@ writeSymbol t largest work room =
     (pick (ltb (firstAbove t) (length t)) (refused character-above-127 (firstAbove t))
     (pick (isCapacity largest)
     (pick (ltb work workRoom) (refused lent-too-short 0) (inSize room t (choose capacities largest t)))
-    (refused not-a-capacity 0)))
+    (refused largest-no-capacity 0)))
 
 abbrev pub answered : Answer → SymbolWritten
 answered (written c n s) = Written c n

@@ -37,7 +37,7 @@ pub fn is_digit(c: u8) -> bool
     if c < 48 { false } else { c < 58 }
 }
 
-pub fn less(a: u16, b: u16) -> u16
+pub fn smaller(a: u16, b: u16) -> u16
     ensures { λ r. ⌜ r ≡ min a b ⌝ }
 {
     if a <= b { a } else { b }
@@ -46,8 +46,8 @@ pub fn less(a: u16, b: u16) -> u16
 fn lesser(a: Least, b: Least) -> Least
     ensures { λ r. ⌜ (r .even ≡ min (a .even) (b .even)) × (r .odd ≡ min (a .odd) (b .odd)) ⌝ }
 {
-    let even = less(a.even, b.even);
-    let odd = less(a.odd, b.odd);
+    let even = smaller(a.even, b.even);
+    let odd = smaller(a.odd, b.odd);
     Least { even, odd }
 }
 

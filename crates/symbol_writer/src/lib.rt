@@ -8,11 +8,11 @@ mod sizes;
 use codewords::put_codewords;
 use codewords::put_pads;
 use costs::fill;
-use costs::less;
+use costs::smaller;
 use refusal::CHARACTER_ABOVE_127;
+use refusal::LARGEST_NO_CAPACITY;
 use refusal::LENT_TOO_SHORT;
 use refusal::NO_SIZE_FITS;
-use refusal::NOT_A_CAPACITY;
 use refusal::Refusal;
 use refusal::TEXT_TOO_LONG;
 use sizes::Size;
@@ -79,7 +79,7 @@ fn size_for(text: &[u8], largest: usize, work: &mut [u16]) -> Size
 {
     let full = fill(text, false, work);
     let ended = fill(text, true, work);
-    let fewest = less(ended.ascii.even, ended.ascii.odd) as usize;
+    let fewest = smaller(ended.ascii.even, ended.ascii.odd) as usize;
     choose_size(largest, fewest, full.ascii)
 }
 
@@ -143,7 +143,7 @@ fn write_by_costs(text: &[u8], largest: usize, work: &mut [u16], symbol: &mut [u
         return refused(CHARACTER_ABOVE_127, above);
     }
     if !codeword::is_capacity(largest) {
-        return refused(NOT_A_CAPACITY, 0);
+        return refused(LARGEST_NO_CAPACITY, 0);
     }
     if work.len() < WORK_ROOM {
         return refused(LENT_TOO_SHORT, 0);

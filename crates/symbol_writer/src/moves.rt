@@ -14,7 +14,7 @@ ghost use lib.ListN.{length, drop};
 ghost use Rattle.refusal.specs.Limits.{limit};
 ghost use Rattle.codeword.specs.Reading.{inAscii, inC40};
 ghost use Rattle.optimum.specs.Cost.{digit};
-ghost use Rattle.optimum.specs.Write.{next, third, pair, letter, move, pack};
+ghost use Rattle.optimum.specs.Write.{next, third, pair, character, move, pack};
 ghost use Rattle.symbol_writer.specs.Rows.{Filled};
 ghost use Rattle.symbol_writer.specs.Moves.{modeOf, basicValue, columnBehind, IsValue, IsThird, IsMove, AnyMove, Chars, Lent};
 
@@ -159,7 +159,7 @@ fn two_digits(c: u8, d: u8) -> u8
 // In ASCII mode two digits, if the n codewords behind them will do, and else a character.
 fn character(text: &[u8], i: usize, n: usize, work: &[u16]) -> Move
     requires { ⌜ Lent (now text) (now work) i ⌝ }
-    ensures { λ r. ⌜ AnyMove (now (text .entry)) (now (work .entry)) 1 r (λ b. letter b n (drop i (now (text .entry)))) ⌝ }
+    ensures { λ r. ⌜ AnyMove (now (text .entry)) (now (work .entry)) 1 r (λ b. character b n (drop i (now (text .entry)))) ⌝ }
 {
     if i == text.len() {
         return Move::Stuck;

@@ -7,7 +7,7 @@ use lib.Dec.{leb, eqb}
 use lib.ListN.{length, take, drop}
 use Rattle.refusal.specs.Pick.{pick}
 use Rattle.refusal.specs.Answers.{Answer, good, refused, _>>=_, _>>_, check}
-use Rattle.refusal.specs.Numbers.{text-too-long, lent-too-short, no-mark, wrong-character, data-too-short, identifier-repeated, data-too-long, fixed-cut, too-many-fields, no-row}
+use Rattle.refusal.specs.Numbers.{text-too-long, lent-too-short, no-mark, wrong-character, data-too-short, identifier-repeated, data-too-long, fixed-cut, too-many-fields, bad-record}
 use Rattle.refusal.specs.Limits.{limit, most-fields}
 use Rattle.refusal.specs.Among.{among}
 use Rattle.dictionary.specs.Dictionary.{Dictionary, allowed, fixed, full, rowAt, rowsOf}
@@ -106,7 +106,7 @@ entries slice (f ∷ fs) = entry slice f ∷ entries slice fs
 unfoldable pub writeField : Dictionary → (slice : List ℕ) → (before : List Field) → (i : ℕ) → Field → Answer (List ℕ)
 writeField d slice before i f = do
   r ← rowAt d (f .row) i
-  check (leb (f .start + f .length) (length slice)) no-row i
+  check (leb (f .start + f .length) (length slice)) bad-record i
   check (not (among (f .row) (rowsOf before))) identifier-repeated i
   check (not (f .cut && fixed r)) fixed-cut i
   check (within (r .greatest) (f .length)) data-too-long i

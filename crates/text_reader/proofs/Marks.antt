@@ -13,12 +13,12 @@ use Rattle.refusal.specs.Pick.{pick}
 use Rattle.refusal.specs.Answers.{Answer, good, refused}
 use Rattle.refusal.specs.Numbers.{header-too-short, not-dc}
 use Rattle.refusal.proofs.Binds.{never, same-good, by-bind, by-check}
-use Rattle.header.specs.Header.{Headed, size, versionOf, parts, readHeader}
+use Rattle.header.specs.Header.{Headed, size, versionOf, parts, known, readHeader}
 use Rattle.text.specs.Text.{Halves, further, atMark}
 
 -- a header that was read stands within the text
 pub header-long : (t : List ℕ) (x : Headed) → readHeader t ≡ good x → size (x .version) ≤ length t
-unfolding readHeader
+unfolding readHeader known
 header-long t x e =
     by-check (leb 22 (length t)) header-too-short (length t) _ e λ _ e.
     by-check (eqb (getD t 0 0) 68 && eqb (getD t 1 0) 67) not-dc 0 _ e λ _ e.

@@ -16,7 +16,7 @@ use Rattle.dictionary.specs.Dictionary.{upper}
 use Rattle.base32.specs.Base32.{inAlphabet, spareBits, decoded}
 use Rattle.header.specs.declared.Version.{Version}
 use Rattle.header.specs.declared.Version.the-variants.{V02, V03, V04}
-use Rattle.header.specs.Header.{versionOf, size, blank, letter, hex, part, perimeter01, perimeterIn, countryIn, parts, readHeader}
+use Rattle.header.specs.Header.{versionOf, size, blank, upperOrDigit, hex, part, perimeter01, perimeterIn, countryIn, parts, readHeader, known}
 use Rattle.text.specs.Signature.{wrongNumber, lengthOfChars, signatureChars, readSignature}
 
 pub record Named {A : Type 0} (x : Answer A) : Type 0 where
@@ -67,16 +67,16 @@ country-named V04 t = part-named (upper ∷ upper ∷ []) 24 t
 parts-named : (v : Version) (t : List ℕ) → Named (parts v t)
 unfolding parts
 parts-named v t =
-    bind _ _ (part-named (upper ∷ upper ∷ letter ∷ letter ∷ []) 4 t) λ authority.
-    bind _ _ (part-named (letter ∷ letter ∷ letter ∷ letter ∷ []) 8 t) λ certificate.
+    bind _ _ (part-named (upper ∷ upper ∷ upperOrDigit ∷ upperOrDigit ∷ []) 4 t) λ authority.
+    bind _ _ (part-named (upperOrDigit ∷ upperOrDigit ∷ upperOrDigit ∷ upperOrDigit ∷ []) 8 t) λ certificate.
     bind _ _ (part-named (hex ∷ hex ∷ hex ∷ hex ∷ []) 12 t) λ issue.
     bind _ _ (part-named (hex ∷ hex ∷ hex ∷ hex ∷ []) 16 t) λ signing.
-    bind _ _ (part-named (letter ∷ letter ∷ []) 20 t) λ doctype.
+    bind _ _ (part-named (upperOrDigit ∷ upperOrDigit ∷ []) 20 t) λ doctype.
     bind _ _ (perimeter-named v t) λ perimeter.
     bind _ _ (country-named v t) λ country. fine _
 
 pub header-named : (t : List ℕ) → Named (readHeader t)
-unfolding readHeader
+unfolding readHeader known
 header-named t =
     check-then (leb 22 (length t)) header-too-short (length t) _ (omega arith)
     (check-then (eqb (getD t 0 0) 68 && eqb (getD t 1 0) 67) not-dc 0 _ (omega arith)

@@ -15,12 +15,12 @@ use Rattle.refusal.specs.Answers.{good, refused}
 use Rattle.refusal.specs.Limits.{most-fields}
 use Rattle.refusal.specs.declared.Refusal.{Refusal}
 use Rattle.refusal.specs.Among.{among}
-use Rattle.dictionary.specs.Dictionary.{Dictionary, rowsOf}
+use Rattle.dictionary.specs.Dictionary.{Dictionary, rowsOf, noField}
 use Rattle.dictionary.specs.Rows.{rows, rowCount}
 use Rattle.dictionary.specs.declared.Field.{Field}
 use Rattle.dictionary.specs.declared.Fields.{Fields}
 use Rattle.text.specs.Zone.{zone}
-use Rattle.text_reader.specs.Answers.{noField, fieldsOf, zoneAnswer}
+use Rattle.text_reader.specs.Answers.{fieldsOf, zoneAnswer}
 use Rattle.text_reader.specs.Code.{Marks, fieldSays}
 use Rattle.text_reader.specs.declared.FieldRead.{FieldRead}
 use Rattle.text_reader.specs.declared.FieldRead.the-variants.{One, Refused}

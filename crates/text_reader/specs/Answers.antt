@@ -1,7 +1,7 @@
 -- What the readers answer, every byte of it, by the definitions.
-use mathlib.Core.Bool.{false}
 use mathlib.Core.List.{List, [], _++_}
 use lib.ListN.{length, drop, replicate}
+use Rattle.dictionary.specs.Dictionary.{noField}
 use Rattle.refusal.specs.Answers.{Answer, good, refused}
 use Rattle.refusal.specs.Numbers.{refusal}
 use Rattle.refusal.specs.Limits.{most-fields}
@@ -13,10 +13,6 @@ use Rattle.header.specs.Code.{noHeader}
 use Rattle.text_reader.specs.declared.Outcome.the-variants.{Accepted, Refused}
 use Rattle.text_reader.specs.declared.ZoneRead.{ZoneRead}
 use Rattle.text_reader.specs.declared.TextRead.{TextRead}
-
--- a record of zeros
-abbrev pub noField : Field
-noField = record { row = 0; cut = false; start = 0; length = 0 }
 
 -- a list of fields, and behind it records of zeros
 abbrev pub fieldsOf : List Field → Fields

@@ -5,6 +5,7 @@ ghost use mathlib.Core.List.{List, []};
 ghost use Prim.Native.Nat.{suc, _+_, _-_, _≤_, _<_};
 ghost use lib.ListN.{length, drop};
 ghost use lib.Seq.{slice};
+ghost use Rattle.dictionary.specs.Dictionary.{noField};
 ghost use Rattle.refusal.specs.Answers.{refused};
 ghost use Rattle.refusal.specs.Limits.{limit, most-fields};
 ghost use Rattle.dictionary.specs.Rows.{rows, rowCount};
@@ -13,7 +14,7 @@ ghost use Rattle.dictionary.specs.declared.Field.{Field};
 ghost use Rattle.text.specs.Zone.{does, readData, zone};
 ghost use Rattle.header.specs.Header.{size};
 ghost use Rattle.text.specs.Text.{reading, readText, signedPart};
-ghost use Rattle.text_reader.specs.Answers.{noField, fieldsOf, zoneAnswer, textAnswer};
+ghost use Rattle.text_reader.specs.Answers.{fieldsOf, zoneAnswer, textAnswer};
 ghost use Rattle.text_reader.specs.Code.{stepSays, dataSays, DataFits, StepFits, fieldOf, rowSays, RowFits, Marks, fieldSays, FieldFits, refusedField, marked};
 
 // A message, or a refusal with its number and place.
@@ -225,7 +226,7 @@ fn no_fields() -> dictionary::Fields
 {
     let f = no_field();
     dictionary::Fields {
-        list: [f; 64],
+        list: [f; refusal::MOST_FIELDS],
         count: 0,
     }
 }

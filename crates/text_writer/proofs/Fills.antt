@@ -11,12 +11,12 @@ use Rattle.refusal.specs.Answers.{good, refused}
 use borrow.Rule.Slice.PartMut.{putMid}
 use Rattle.refusal.specs.Over.{over}
 use Rattle.refusal.proofs.Over.{over-tail}
-use Rattle.dictionary.specs.Dictionary.{Dictionary, rowAt}
+use Rattle.dictionary.specs.Dictionary.{Dictionary, rowAt, noField}
 use Rattle.dictionary.specs.declared.Row.{Row}
 use Rattle.dictionary.specs.declared.Field.{Field}
 use Rattle.text.specs.Text.{dataOf, ending, spelled}
 use Rattle.text_writer.specs.Writing.{Inside, spelledBy, fieldChars, zoneChars}
-use Rattle.text_writer.proofs.Zones.{noField, first-more}
+use Rattle.text_writer.proofs.Zones.{first-more}
 
 pub two-over : (out : List ℕ) (a b : ℕ) → 2 ≤ length out → set (set out 0 a) 1 b ≡ over (a ∷ b ∷ []) out
 two-over [] a b h = absurd (omega arith)

@@ -15,7 +15,7 @@ use Rattle.dictionary.specs.Dictionary.{upper}
 use Rattle.header.specs.declared.Header.{Header}
 use Rattle.header.specs.declared.Version.{Version}
 use Rattle.header.specs.declared.Version.the-variants.{V02, V03, V04}
-use Rattle.header.specs.Header.{letter, hex, part, perimeter01, perimeterIn, countryIn, parts, versionOf, headerChars, writeHeader}
+use Rattle.header.specs.Header.{upperOrDigit, hex, part, perimeter01, perimeterIn, countryIn, parts, versionOf, headerChars, writeHeader}
 use Rattle.header.specs.Code.{verdict}
 use Rattle.text_writer.specs.declared.Room.the-variants.{Refused}
 use Rattle.text_writer.specs.Writing.{roomOf}
@@ -64,11 +64,11 @@ countryIn-numbered V04 t = part-numbered (upper ∷ upper ∷ []) 24 t
 parts-numbered : (v : Version) (t : List ℕ) → Numbered (parts v t)
 unfolding parts
 parts-numbered v t =
-    bind-numbered (part (upper ∷ upper ∷ letter ∷ letter ∷ []) 4 t) _ (part-numbered (upper ∷ upper ∷ letter ∷ letter ∷ []) 4 t) λ a.
-    bind-numbered (part (letter ∷ letter ∷ letter ∷ letter ∷ []) 8 t) _ (part-numbered (letter ∷ letter ∷ letter ∷ letter ∷ []) 8 t) λ b.
+    bind-numbered (part (upper ∷ upper ∷ upperOrDigit ∷ upperOrDigit ∷ []) 4 t) _ (part-numbered (upper ∷ upper ∷ upperOrDigit ∷ upperOrDigit ∷ []) 4 t) λ a.
+    bind-numbered (part (upperOrDigit ∷ upperOrDigit ∷ upperOrDigit ∷ upperOrDigit ∷ []) 8 t) _ (part-numbered (upperOrDigit ∷ upperOrDigit ∷ upperOrDigit ∷ upperOrDigit ∷ []) 8 t) λ b.
     bind-numbered (part (hex ∷ hex ∷ hex ∷ hex ∷ []) 12 t) _ (part-numbered (hex ∷ hex ∷ hex ∷ hex ∷ []) 12 t) λ i.
     bind-numbered (part (hex ∷ hex ∷ hex ∷ hex ∷ []) 16 t) _ (part-numbered (hex ∷ hex ∷ hex ∷ hex ∷ []) 16 t) λ s.
-    bind-numbered (part (letter ∷ letter ∷ []) 20 t) _ (part-numbered (letter ∷ letter ∷ []) 20 t) λ y.
+    bind-numbered (part (upperOrDigit ∷ upperOrDigit ∷ []) 20 t) _ (part-numbered (upperOrDigit ∷ upperOrDigit ∷ []) 20 t) λ y.
     bind-numbered (perimeterIn v t) _ (perimeterIn-numbered v t) λ p.
     bind-numbered (countryIn v t) _ (countryIn-numbered v t) λ c. good-numbered _
 

@@ -9,7 +9,7 @@ use lib.ListN.{length, take, drop, length-drop}
 use lib.Seq.{length-take-le}
 use borrow.Author.Tests.{le-leb, lt-leb}
 use Rattle.refusal.specs.Answers.{good, refused}
-use Rattle.refusal.specs.Numbers.{wrong-character, data-too-short, identifier-repeated, data-too-long, fixed-cut, no-row}
+use Rattle.refusal.specs.Numbers.{wrong-character, data-too-short, identifier-repeated, data-too-long, fixed-cut, bad-record}
 use Rattle.refusal.specs.declared.Refusal.{Refusal as RefusalOf}
 use Rattle.refusal.specs.Among.{among}
 use Rattle.dictionary.specs.Dictionary.{Dictionary, fixed, rowAt, rowsOf}
@@ -59,12 +59,12 @@ pub data-length : (s : List ℕ) (f : Field) → f .start + f .length ≤ length
 data-length s f h = length-take-le (f .length) (drop (f .start) s) (omega (arith, length-drop (f .start) s))
 
 module _ (d : Dictionary) (s : List ℕ) (before : List Field) (i : ℕ) (f : Field) where
-  pub field-nowhere : rowAt d (f .row) i ≡ refused no-row i → roomOf (refused no-row i) ≡ roomOf (writeField d s before i f)
+  pub field-nowhere : rowAt d (f .row) i ≡ refused bad-record i → roomOf (refused bad-record i) ≡ roomOf (writeField d s before i f)
   unfolding writeField
   field-nowhere e = rw e
 
   module _ (r : Row) (e : rowAt d (f .row) i ≡ good r) where
-    pub field-outside : length s < f .start + f .length → roomOf (refused no-row i) ≡ roomOf (writeField d s before i f)
+    pub field-outside : length s < f .start + f .length → roomOf (refused bad-record i) ≡ roomOf (writeField d s before i f)
     unfolding writeField
     field-outside h = rw (e, lt-leb (f .start + f .length) (length s) h)
 

@@ -1,7 +1,6 @@
 -- Records side by side, one by one: the room of those passed and what writing the others answers make up the whole.
 -- By cases on what one record and the rest answer. Assumes nothing.
 use Prim.Native.Nat.{ℕ, suc, _+_, _≤_, _<_}
-use mathlib.Core.Bool.{false}
 use mathlib.Core.List.{List, [], _∷_, _++_, map-append}
 use mathlib.Core.Path.{_≡_, refl, sym, ap, _∙_}
 use native.Mathlib.Numerals.{add-one}
@@ -11,7 +10,7 @@ use lib.Seq.{take-all, take-suc, take-suc-set, drop-cons, getD-take, length-take
 use Rattle.refusal.specs.Answers.{Answer, good, refused, _>>=_}
 use Rattle.refusal.specs.Numbers.{refusal}
 use Rattle.refusal.specs.declared.Refusal.{Refusal as RefusalOf}
-use Rattle.dictionary.specs.Dictionary.{Dictionary, rowsOf}
+use Rattle.dictionary.specs.Dictionary.{Dictionary, rowsOf, noField}
 use Rattle.dictionary.specs.declared.Field.{Field}
 use Rattle.text.specs.Text.{writeField, writeZone}
 use Rattle.text_writer.specs.declared.Room.{Room}
@@ -44,10 +43,6 @@ one-behind : (w z : Answer (List ℕ)) (n m : ℕ) → Takes m ≡ roomOf w → 
 one-behind (good l) (good y) n m e = let k : (n + m) + length y ≡ n + length (l ++ y) = omega (arith, same-room e, length-append l y) in ap Takes k
 one-behind (good l) (refused k p) n m e = refl
 one-behind (refused k p) z n m e = never (sym e) refl
-
--- what stands past the end of a list of records
-abbrev pub noField : Field
-noField = record { row = 0; cut = false; start = 0; length = 0 }
 
 -- the first `count` records of a list
 module _ (list : List Field) (count : ℕ) (few : count ≤ length list) where

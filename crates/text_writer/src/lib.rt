@@ -12,6 +12,7 @@ ghost use mathlib.Core.Path.{_≡_};
 ghost use mathlib.Core.List.{List, []};
 ghost use Prim.Native.Nat.{_+_, _*_, _<_, _≤_};
 ghost use lib.ListN.{length, getD, take};
+ghost use Rattle.refusal.specs.Limits.{most-fields};
 ghost use Rattle.refusal.specs.Over.{over};
 ghost use Rattle.refusal.specs.Among.{among};
 ghost use Rattle.refusal.specs.Answers.{good, refused};
@@ -174,12 +175,12 @@ fn room_of_field(table: &[u8; 550], f: Field, rows: &[u16], slice: &[u8], i: usi
 {
     let found = dictionary::row_at(table, row_number(f.row));
     let dictionary::RowFound::Is(r) = found else {
-        return refuse(refusal::NO_ROW, i);
+        return refuse(refusal::BAD_RECORD, i);
     };
     let start = wide(f.start);
     let end = start + wide(f.length);
     if slice.len() < end {
-        return refuse(refusal::NO_ROW, i);
+        return refuse(refusal::BAD_RECORD, i);
     }
     if is_taken(f.row, rows) {
         return refuse(refusal::IDENTIFIER_REPEATED, i);
@@ -189,12 +190,12 @@ fn room_of_field(table: &[u8; 550], f: Field, rows: &[u16], slice: &[u8], i: usi
 
 // "Record by record", to the end of one before the next. The rows so far stand in an array of their own, so that no call copies the list.
 fn room_of_zone(fields: Fields, slice: &[u8]) -> Room
-    requires { ⌜ fields .count ≤ 64 ⌝ }
+    requires { ⌜ fields .count ≤ most-fields ⌝ }
     ensures says { λ x. ⌜ x ≡ roomOf (writeZone theRows (now (slice .entry)) [] 0 (take (fields .count) (fields .list))) ⌝ }
-    ensures small { λ x. ⌜ Below (64 * (widest + 3)) x ⌝ }
+    ensures small { λ x. ⌜ Below (most-fields * (widest + 3)) x ⌝ }
 {
     let table = dictionary::all_rows();
-    let mut rows = [0u16; 64];
+    let mut rows = [0u16; refusal::MOST_FIELDS];
     let mut total = 0;
     let mut i = 0;
     while i < fields.count {
@@ -246,7 +247,7 @@ fn is_signature(n: usize) -> bool
 
 // The header, then record by record, then 21.
 fn room_of_text(header: Header, v: Version, fields: Fields, slice: &[u8], signature: &[u8]) -> Room
-    requires { ⌜ (versionOf (getD (header .version) 0 0) (getD (header .version) 1 0) ≡ good v) × (fields .count ≤ 64) ⌝ }
+    requires { ⌜ (versionOf (getD (header .version) 0 0) (getD (header .version) 1 0) ≡ good v) × (fields .count ≤ most-fields) ⌝ }
     ensures { λ x. ⌜ x ≡ roomOf (writing theRows (messageOf header fields (now (signature .entry))) (now (slice .entry))) ⌝ }
 {
     let head = room_of_header(header, v);
@@ -299,7 +300,7 @@ fn write_field(table: &[u8; 550], f: Field, slice: &[u8], out: &mut [u8]) -> usi
 
 // The records side by side over the front of the output, and how many characters they are.
 fn write_zone(fields: Fields, slice: &[u8], out: &mut [u8]) -> usize
-    requires { ⌜ (fields .count ≤ 64) × Inside (length (now slice)) (take (fields .count) (fields .list)) × (length (zoneChars theRows (now slice) (take (fields .count) (fields .list))) ≤ length (now out)) ⌝ }
+    requires { ⌜ (fields .count ≤ most-fields) × Inside (length (now slice)) (take (fields .count) (fields .list)) × (length (zoneChars theRows (now slice) (take (fields .count) (fields .list))) ≤ length (now out)) ⌝ }
     ensures is { λ x. ⌜ x ≡ length (zoneChars theRows (now (slice .entry)) (take (fields .count) (fields .list))) ⌝ }
     ensures written { λ x. ⌜ now (out .exit) ≡ over (zoneChars theRows (now (slice .entry)) (take (fields .count) (fields .list))) (now (out .entry)) ⌝ }
 {
@@ -324,7 +325,7 @@ fn write_parts(
     signature: &[u8],
     out: &mut [u8],
 )
-    requires { ⌜ (fields .count ≤ 64) × Inside (length (now slice)) (take (fields .count) (fields .list)) × (length (now signature) ≤ 132) × (length (textChars theRows v header fields (now signature) (now slice)) ≤ length (now out)) ⌝ }
+    requires { ⌜ (fields .count ≤ most-fields) × Inside (length (now slice)) (take (fields .count) (fields .list)) × (length (now signature) ≤ 132) × (length (textChars theRows v header fields (now signature) (now slice)) ≤ length (now out)) ⌝ }
     ensures { λ _. ⌜ now (out .exit) ≡ over (textChars theRows v header fields (now (signature .entry)) (now (slice .entry))) (now (out .entry)) ⌝ }
 {
     let h = header_size(header, v);

@@ -5,8 +5,7 @@ use native.Mathlib.Omega.{arith}
 use borrow.Author.Needs.{needs}
 use lib.ListN.{take, drop}
 use lib.Seq.{getD-take}
-use mathlib.Core.Bool.{false}
-use Rattle.dictionary.specs.declared.Field.{Field}
+use Rattle.dictionary.specs.Dictionary.{noField}
 use Rattle.conformity.specs.declared.Seen.{Seen}
 use Rattle.conformity.specs.Noted.{begun, notedAll, decided}
 use Rattle.conformity.proofs.Listed.{next-noted, all-noted, counted, decided-right}
@@ -14,18 +13,14 @@ use Rattle.conformity.proofs.Lengths.{list-long}
 use Rattle.conformity.proofs.conforms.Statement.{statement}
 use Rattle.conformity.proofs.conforms.Tie as tie
 
--- what a read past the end would give
-abbrev noField : Field
-noField = record { row = 0; cut = false; start = 0; length = 0 }
-
 abbrev Inv-loop : tie.InvT-loop
 Inv-loop type0 type1 f end s₀ i₀ s i = (i ≤ end) × (notedAll s i (drop i (take (f .count) (f .list))) ≡ notedAll (begun type0 type1) 0 (take (f .count) (f .list)))
 
 abbrev μ-loop : tie.MeasureT-loop
 μ-loop type0 type1 f end s₀ i₀ s i = end - i
 
-at-most-64-requires : tie.Need-at-most-64-requires Inv-loop μ-loop
-at-most-64-requires c κs = search needs
+held-requires : tie.Need-held-requires Inv-loop μ-loop
+held-requires c κs = search needs
 
 begin-requires : tie.Need-begin-requires Inv-loop μ-loop
 begin-requires c κs = search needs
@@ -39,7 +34,7 @@ mul-x : tie.Need-mul-x Inv-loop μ-loop
 mul-x c = search needs
 
 element-copy-out-x : tie.Need-element-copy-out-x Inv-loop μ-loop
-element-copy-out-x c = omega (arith, c .before .before .before .at-most-64 .ensures)
+element-copy-out-x c = omega (arith, c .before .before .before .held .ensures)
 
 note-requires : tie.Need-note-requires Inv-loop μ-loop
 note-requires c κs = search needs
@@ -55,7 +50,7 @@ loop-again c =
     let c3 = c .before .before .before in
     let c5 = c3 .before .before in
     let f = c5 .before .args .t3 in
-    let few = c5 .at-most-64 .ensures in
+    let few = c5 .held .ensures in
     let long = counted (f .count) (f .list) (list-long f _ (c5 .before .good .1 .1 .0)) in (
       search needs,
       next-noted _ _ _ _ noField (take (f .count) (f .list)) (omega (arith, few, long))
@@ -71,7 +66,7 @@ returns c =
     let c4 = c2 .before .before in
     let a = c4 .before .args in
     let l = take (a .t3 .count) (a .t3 .list) in
-    let few = c4 .at-most-64 .ensures in
+    let few = c4 .held .ensures in
     let long = counted (a .t3 .count) (a .t3 .list) (list-long (a .t3) _ (c4 .before .good .1 .1 .0)) in
     c .decide .ensures ∙
     (ap decided (sym (all-noted (c2 .loop .s) (c2 .loop .i) l (omega (arith, few, long))) ∙ c2 .loop .inv .1) ∙ decided-right (a .type0) (a .type1) l)
@@ -82,7 +77,7 @@ conforms-spec =
     (tie.spec
     Inv-loop
     μ-loop
-    at-most-64-requires
+    held-requires
     begin-requires
     loop-holds
     mul-x

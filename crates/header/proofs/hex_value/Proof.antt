@@ -1,4 +1,4 @@
--- `hex_value` meets its contract: a hexadecimal digit is a figure or a letter, by the test. Assumes nothing.
+-- `hex_value` meets its contract: a hexadecimal digit is a figure or a upperOrDigit, by the test. Assumes nothing.
 use native.Mathlib.Omega.{arith}
 use borrow.Author.Tests.{le-leb, lt-leb}
 use Rattle.header.proofs.Sets.{hex-figure, hex-letter}

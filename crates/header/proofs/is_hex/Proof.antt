@@ -1,4 +1,4 @@
--- `is_hex` meets its contract: below A a digit, else a letter up to F. Assumes nothing.
+-- `is_hex` meets its contract: below A a digit, else a upperOrDigit up to F. Assumes nothing.
 use Rattle.header.proofs.Sets.{hex-low, hex-none, hex-high}
 use Rattle.header.proofs.is_hex.Statement.{statement}
 use Rattle.header.proofs.is_hex.Tie as tie

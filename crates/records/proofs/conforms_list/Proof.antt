@@ -49,13 +49,13 @@ use denote.Triple.Table.{entered, cited}
 use denote.Triple.Clauses.{ensured, lasts}
 use denote.Triple.Walked.{says, Stays, stay-none-slice, stay-none, walkOf, Walks, ends-at, walked, goes-none-slice, goes-none, walk-meets}
 use denote.Exit.{yes}
+use Rattle.dictionary.specs.Dictionary.{noField}
 use Rattle.dictionary.specs.declared.Field.{Field}
 use Rattle.conformity.specs.declared.Seen.{Seen}
 use Rattle.conformity.specs.declared.Conformity.{Conformity}
 use Rattle.conformity.specs.Conformity.{conforms}
 use Rattle.conformity.specs.Noted.{answered, begun, noted, notedAll, decided}
 use Rattle.conformity.proofs.Listed.{next-noted, all-noted, decided-right}
-use Rattle.records.specs.Lists.{noField}
 use Rattle.records.proofs.Tests.{goes-on, is-over}
 use Rattle.records.proofs.Values.{field, seen, seen-spelt}
 use Rattle.dictionary.proofs.Field as T

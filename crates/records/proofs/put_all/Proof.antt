@@ -48,7 +48,8 @@ use denote.Triple.Table.{entered, cited}
 use denote.Triple.Clauses.{ensured, lasts}
 use denote.Triple.Walked.{says, needs, Stays, stay-slice, stay-none, walkOf, Walks, ends-at, walked, goes-slice, goes-none, walk-meets}
 use denote.Exit.{yes}
-use Rattle.records.specs.Lists.{noField, pasted}
+use Rattle.dictionary.specs.Dictionary.{noField}
+use Rattle.records.specs.Lists.{pasted}
 use Rattle.dictionary.specs.declared.Field.{Field}
 use Rattle.dictionary.specs.declared.Fields.{Fields}
 use Rattle.records.proofs.Pasted.{pasted-length, pasted-more}

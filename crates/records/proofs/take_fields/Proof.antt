@@ -49,9 +49,10 @@ use denote.Triple.Table.{entered, cited}
 use denote.Triple.Clauses.{ensured, lasts}
 use denote.Triple.Walked.{says, Stays, stay-none-slice, walkOf, Walks, ends-at, walked, goes-none-slice, walk-meets}
 use denote.Exit.{yes}
+use Rattle.dictionary.specs.Dictionary.{noField}
 use Rattle.dictionary.specs.declared.Field.{Field}
 use Rattle.dictionary.specs.declared.Fields.{Fields}
-use Rattle.records.specs.Lists.{noField, noFields, pasted, withRecord, byValue}
+use Rattle.records.specs.Lists.{noFields, pasted, withRecord, byValue}
 use Rattle.records.proofs.Pasted.{pasted-more}
 use Rattle.records.proofs.Tests.{goes-on, is-over}
 use Rattle.records.proofs.Values.{field, fields, fields-spelt}
@@ -59,10 +60,10 @@ use Rattle.dictionary.proofs.Field as T
 use Rattle.dictionary.proofs.Field.Laws as T′
 use Rattle.dictionary.proofs.Fields as F
 use Rattle.dictionary.proofs.Fields.Laws as F′
-use Rattle.records.proofs.at_most_64 as most
-use Rattle.records.proofs.at_most_64.Symbol as most-def
-use Rattle.records.proofs.at_most_64.Symbol.{name as #records·at-most-64}
-use Rattle.records.proofs.at_most_64.Met as most-thm
+use Rattle.dictionary.proofs.held as most
+use Rattle.dictionary.proofs.held.Symbol as most-def
+use Rattle.dictionary.proofs.held.Symbol.{name as #dictionary·held}
+use Rattle.dictionary.proofs.held.Met as most-thm
 use Rattle.records.proofs.no_fields as none
 use Rattle.records.proofs.no_fields.Symbol as none-def
 use Rattle.records.proofs.no_fields.Symbol.{name as #records·no-fields}
@@ -187,7 +188,7 @@ module _ {M : Type 1} (𝓤 : URA M) (H : Heap 𝓤) (A : Atoms 𝓤) (W : Given
   with-said : (f : Fields) (i : ℕ) (y : Field) (r : Fields) → ent 𝓤 (ensured 𝓤 H A with-one.ended (with-one.clauses 𝓤 H A at-mem run) tt (f, (i, (y, tt))) tt r) (fact 𝓤 (r ≡ withRecord f i y))
   with-said f i y r = exE 𝓤 _ (λ ws. snd∗ 𝓤 (sem 𝓤 H A (lasts with-one.ended tt (f, (i, (y, tt))) ws)) (fact 𝓤 (r ≡ withRecord f i y)))
 
-  module _ (𝓣 : Tables 𝓤 H) (fm : FmC 𝓤 H (W .laws) (𝓣 .C)) (known-most : Triple 𝓤 (𝓣 .C #records·at-most-64) (Most 𝓤 H A at-mem run)) (known-none : Triple 𝓤 (𝓣 .C #records·no-fields) (None 𝓤 H A at-mem run))
+  module _ (𝓣 : Tables 𝓤 H) (fm : FmC 𝓤 H (W .laws) (𝓣 .C)) (known-most : Triple 𝓤 (𝓣 .C #dictionary·held) (Most 𝓤 H A at-mem run)) (known-none : Triple 𝓤 (𝓣 .C #records·no-fields) (None 𝓤 H A at-mem run))
       (known-with : Triple 𝓤 (𝓣 .C #records·with-record) (With 𝓤 H A at-mem run)) (l₀ l₁ l₂ l₃ l₄ l₅ l₆ l₇ l₈ l₉ l₁₀ : ℕ) where
     abbrev C : Calls 𝓤 H
     C = 𝓣 .C
@@ -341,7 +342,7 @@ module _ {M : Type 1} (𝓤 : URA M) (H : Heap 𝓤) (A : Atoms 𝓤) (W : Given
     begins-seq : (E : Env 𝓤 H) (body : Body) → En ≡ E → mir′.t-1 ≡ body → Sq W Entry (runs C Λ E body (atRet E Post))
     begins-seq E body e₁ e₂ = by ! (begins-at E body e₁ e₂)
 
-  walk : (𝓣 : Tables 𝓤 H) (fm : FmC 𝓤 H (W .laws) (𝓣 .C)) (known-most : Triple 𝓤 (𝓣 .C #records·at-most-64) (Most 𝓤 H A at-mem run)) (known-none : Triple 𝓤 (𝓣 .C #records·no-fields) (None 𝓤 H A at-mem run))
+  walk : (𝓣 : Tables 𝓤 H) (fm : FmC 𝓤 H (W .laws) (𝓣 .C)) (known-most : Triple 𝓤 (𝓣 .C #dictionary·held) (Most 𝓤 H A at-mem run)) (known-none : Triple 𝓤 (𝓣 .C #records·no-fields) (None 𝓤 H A at-mem run))
       (known-with : Triple 𝓤 (𝓣 .C #records·with-record) (With 𝓤 H A at-mem run)) → ent 𝓤 (onEntry 𝓤 H A takes.signature (κ, tt) (q, tt) a at) (WpFn 𝓤 H (𝓣 .C) (𝓣 .Λ) code.function (sv ∷ []) Post)
   walk 𝓣 fm known-most known-none known-with =
       qed W ((‵ (flft κ q) ⊛ ‵ ftrue) ∷ ‵ (owns (ShrSlice (named 0) κ T.the-row ∷ []) a at) ∷ []) ∵ enter ! (𝓣 .C) (𝓣 .Λ) code.function (sv ∷ []) _ $
@@ -349,7 +350,7 @@ module _ {M : Type 1} (𝓤 : URA M) (H : Heap 𝓤) (A : Atoms 𝓤) (W : Given
       pass1 ! (init ! 18 refl (tt, (tt, (record { fits = gn .0 }, tt)))) $ pass0 ! $
       begins-seq 𝓣 fm known-most known-none known-with l₀ l₁ l₂ l₃ l₄ l₅ l₆ l₇ l₈ l₉ l₁₀ _ _ refl refl)))))))))))
 
-module _ {M : Type 1} (𝓤 : URA M) (H : Heap 𝓤) (A : Atoms 𝓤) (W : Given 𝓤 H A) (at-mem : Memory → SProp 𝓤) (run : Routine → Fun 𝓤) (𝓣 : Tables 𝓤 H) (known-most : Triple 𝓤 (𝓣 .C #records·at-most-64) (Most 𝓤 H A at-mem run))
+module _ {M : Type 1} (𝓤 : URA M) (H : Heap 𝓤) (A : Atoms 𝓤) (W : Given 𝓤 H A) (at-mem : Memory → SProp 𝓤) (run : Routine → Fun 𝓤) (𝓣 : Tables 𝓤 H) (known-most : Triple 𝓤 (𝓣 .C #dictionary·held) (Most 𝓤 H A at-mem run))
     (known-none : Triple 𝓤 (𝓣 .C #records·no-fields) (None 𝓤 H A at-mem run)) (known-with : Triple 𝓤 (𝓣 .C #records·with-record) (With 𝓤 H A at-mem run)) where
   take-walks : Walks 𝓤 H A takes.ended stayed (WpFn 𝓤 H (𝓣 .C) (𝓣 .Λ) code.function) (takes.clauses 𝓤 H A at-mem run)
   take-walks = walked 𝓤 H A takes.ended stayed (takes.clauses 𝓤 H A at-mem run) (WpFn 𝓤 H (𝓣 .C) (𝓣 .Λ) code.function) (λ κs. (slice-vals, tt)) (λ κs. (shr-slice-tells (named 0) (κs .0) T.the-row, tt))
@@ -366,6 +367,6 @@ take-fields-spec 𝓤 H 𝓜 𝓖 𝓡 =
     entered 𝓤 H (tripleOf 𝓤 H (𝓖 .A) takes.signature (takes.spec 𝓤 H (𝓖 .A) (𝓜 .mem) (𝓡 .run)))
     (tables 𝓤 H 𝓜 𝓡 code.env .C) (tables 𝓤 H 𝓜 𝓡 code.env .Λ) #records·take-fields code.function (code.unfolded 𝓤 H 𝓜 𝓡)
     (take-meets 𝓤 H (𝓖 .A) (givenOf 𝓤 H 𝓜 𝓖) (𝓜 .mem) (𝓡 .run) (tablesOf 𝓤 H 𝓜 (tables 𝓤 H 𝓜 𝓡 code.env))
-    (cited 𝓤 H (Most 𝓤 H (𝓖 .A) (𝓜 .mem) (𝓡 .run)) 𝓜 𝓡 code.env #records·at-most-64 most-def.routine code.calls-records·at-most-64 (most-thm.met 𝓤 H 𝓜 𝓖 𝓡))
+    (cited 𝓤 H (Most 𝓤 H (𝓖 .A) (𝓜 .mem) (𝓡 .run)) 𝓜 𝓡 code.env #dictionary·held most-def.routine code.calls-dictionary·held (most-thm.met 𝓤 H 𝓜 𝓖 𝓡))
     (cited 𝓤 H (None 𝓤 H (𝓖 .A) (𝓜 .mem) (𝓡 .run)) 𝓜 𝓡 code.env #records·no-fields none-def.routine code.calls-records·no-fields (none-thm.met 𝓤 H 𝓜 𝓖 𝓡))
     (cited 𝓤 H (With 𝓤 H (𝓖 .A) (𝓜 .mem) (𝓡 .run)) 𝓜 𝓡 code.env #records·with-record with-one-def.routine code.calls-records·with-record (with-one-thm.met 𝓤 H 𝓜 𝓖 𝓡)))

@@ -15,7 +15,7 @@ returns : tie.Need-returns
 returns c =
     let c3 = c .before .before .before in
     let a = c3 .args in
-    (ascii-ends (a .codewords .now) (a .place) (a .n) (a .text .now) (c .if1 .taken), c3 .pre .1)
+    (ascii-ends (a .codewords .now) (a .place) (a .n) (a .text .now) (omega (arith, c .if1 .taken)), c3 .pre .1)
 
 shared-slice-read-ascii-of : tie.Need-shared-slice-read-ascii-of
 shared-slice-read-ascii-of c = search needs

@@ -3,7 +3,7 @@
 use mathlib.Core.Path.{_∙_, sym}
 use native.Mathlib.Omega.{arith}
 use lib.ListN.{take}
-use Rattle.refusal.specs.Numbers.{unused-value}
+use Rattle.refusal.specs.Numbers.{wrong-value}
 use Rattle.symbol_reader.proofs.After.{after-refused, value-is}
 use borrow.Author.Needs.{needs}
 use Rattle.symbol_reader.proofs.put_value.Statement.{statement}
@@ -47,7 +47,7 @@ returns-3 c =
     let c2 = c .before .before in
     let a = c2 .before .before .args in (
       λ p rest.
-          sym (after-refused (take (a .n) (a .text .now)) p unused-value)
+          sym (after-refused (take (a .n) (a .text .now)) p wrong-value)
           ∙ value-is (a .text .now) (a .n) p rest (c .enum-told .given .1) (c2 .value-of .ensures),
       omega arith,
     )

@@ -14,8 +14,8 @@ fill-requires c κs = search needs
 fill-requires-2 : tie.Need-fill-requires-2
 fill-requires-2 c κs = search needs
 
-less-requires : tie.Need-less-requires
-less-requires c κs = search needs
+smaller-requires : tie.Need-smaller-requires
+smaller-requires c κs = search needs
 
 cast-fewest : tie.Need-cast-fewest
 cast-fewest c = search needs
@@ -33,7 +33,7 @@ returns c =
     let full = c .before .before .before .before .before .before .before .before .fill .ensures in
     let ended = c .before .before .before .before .fill2 .ensures in (
       record {
-        is = chosen .is (s .args .text .now) (fewest-is (s .args .text .now) _ _ (ended .0) (c .before .less .ensures)) (ap (λ (k : Costs). k .ascii) (full .0));
+        is = chosen .is (s .args .text .now) (fewest-is (s .args .text .now) _ _ (ended .0) (c .before .smaller .ensures)) (ap (λ (k : Costs). k .ascii) (full .0));
         low = chosen .low;
       },
       filled-on (full .1) (ended .1),
@@ -45,7 +45,7 @@ size-for-spec =
     (tie.spec
     fill-requires
     fill-requires-2
-    less-requires
+    smaller-requires
     cast-fewest
     choose-size-requires
     same-length

@@ -4,14 +4,14 @@ use Prim.Native.Nat.{_+_, _<_}
 use native.Mathlib.Omega.{arith}
 use lib.ListN.{length}
 use borrow.Author.Needs.{needs}
-use Rattle.symbol_writer.proofs.Greedy.{letter-none, letter-last, letter-two, letter-one, both-digits}
+use Rattle.symbol_writer.proofs.Greedy.{character-none, character-last, character-two, character-one, both-digits}
 use Rattle.symbol_writer.proofs.moves.character.Statement.{statement}
 use Rattle.symbol_writer.proofs.moves.character.Tie as tie
 
 returns : tie.Need-returns
 returns c =
     let s = c .before .before .before .args in
-    record { is = λ b F. letter-none b (s .text .now) (s .i) (s .n) (c .if1 .taken); low = tt }
+    record { is = λ b F. character-none b (s .text .now) (s .i) (s .n) (c .if1 .taken); low = tt }
 
 shared-slice-read-c : tie.Need-shared-slice-read-c
 shared-slice-read-c c = search needs
@@ -30,7 +30,7 @@ add-t15 c = search needs
 returns-2 : tie.Need-returns-2
 returns-2 c =
     let s = c .before .before .before .before .before .args in
-    record { is = λ b F. letter-last b (s .text .now) (s .i) (s .n) (c .if2 .taken); low = omega (arith, c .if2 .taken) }
+    record { is = λ b F. character-last b (s .text .now) (s .i) (s .n) (c .if2 .taken); low = omega (arith, c .if2 .taken) }
 
 add-d : tie.Need-add-d
 add-d c = search needs
@@ -61,7 +61,7 @@ returns-3 c =
     let s = c .before .before .before .before .before .before .before .before .before .before in
     let l = more-than-one (c .before .before .before) in
     record {
-      is = λ b F. letter-two b (s .args .text .now) (s .args .i) (s .args .n) (s .args .work .now) F l _ _ (c .before .before .before .fits2 .ensures) (c .before .before .digits-fit .ensures) (c .before .if3 .taken) _ (c .two-digits .ensures);
+      is = λ b F. character-two b (s .args .text .now) (s .args .i) (s .args .n) (s .args .work .now) F l _ _ (c .before .before .before .fits2 .ensures) (c .before .before .digits-fit .ensures) (c .before .if3 .taken) _ (c .two-digits .ensures);
       low = omega arith;
     }
 
@@ -78,7 +78,7 @@ returns-4 c =
     let s = c .before .before .before .before .before .before .before .before .before in
     let l = more-than-one (c .before .before) in
     record {
-      is = λ b F. letter-one b (s .args .text .now) (s .args .i) (s .args .n) (s .args .work .now) F l _ _ (c .before .before .fits2 .ensures) (c .before .digits-fit .ensures) (c .if3 .left);
+      is = λ b F. character-one b (s .args .text .now) (s .args .i) (s .args .n) (s .args .work .now) F l _ _ (c .before .before .fits2 .ensures) (c .before .digits-fit .ensures) (c .if3 .left);
       low = omega arith;
     }
 

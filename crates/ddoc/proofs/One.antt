@@ -1,0 +1,51 @@
+-- What each exported function promises, of its answer and of what was lent, leaves one answer. Four promises are equations; that of writing a
+-- symbol speaks of the best symbol, which is one.
+-- Assumes nothing.
+use Prim.Native.Nat.{ℕ}
+use mathlib.Core.List.{List}
+use mathlib.Core.Path.{_≡_, ap, sym, _∙_}
+use lib.ListN.{length}
+use Rattle.codeword.specs.Reading.{readSymbol}
+use Rattle.symbol_reader.specs.Answers.{lentAfter}
+use Rattle.symbol_writer.proofs.Promise as symbol-writer
+use Rattle.dictionary.specs.declared.Field.{Field}
+use Rattle.dictionary.specs.Rows.{rows}
+use Rattle.conformity.specs.Conformity.{conforms}
+use Rattle.conformity.specs.Noted.{answered}
+use Rattle.text.specs.Text.{readText, writeText}
+use Rattle.text.specs.Text as text
+use Rattle.text_reader.specs.Answers.{textAnswer}
+use Rattle.text_writer.specs.Writing.{writtenOver}
+use Rattle.ddoc.specs.declared.Answer.{Answer}
+use Rattle.ddoc.specs.declared.Message.{Message}
+use Rattle.ddoc.specs.Answers.{readingAnswer, writingAnswer, Writes, conformityAnswer, messageAnswer, listAfter, writtenAnswer}
+
+abbrev ReadsSymbol : (codewords old new : List ℕ) → Answer → Type 0
+ReadsSymbol ws old new r = (r ≡ readingAnswer (readSymbol ws (length old))) × (new ≡ lentAfter (readSymbol ws (length old)) old)
+
+pub read-symbol : (ws old new new′ : List ℕ) (r r′ : Answer) → ReadsSymbol ws old new r → ReadsSymbol ws old new′ r′ → (r ≡ r′) × (new ≡ new′)
+read-symbol ws old new new′ r r′ p q = (p .0 ∙ sym (q .0), p .1 ∙ sym (q .1))
+
+pub write-symbol : (t : List ℕ) (largest work : ℕ) (old new new′ : List ℕ) (r r′ : Answer) →
+    Writes t largest work old new r → Writes t largest work old new′ r′ → (r ≡ r′) × (new ≡ new′)
+write-symbol t largest work old new new′ r r′ p q =
+    let e = symbol-writer.only-one t largest old work new new′ (p .answer) (q .answer) (p .promised) (q .promised) in
+    (p .numbers ∙ ap writingAnswer (e .0) ∙ sym (q .numbers), e .1)
+
+abbrev ReadsText : (t : List ℕ) → (old new : List Field) → Message → Type 0
+ReadsText t old new r = (r ≡ messageAnswer (textAnswer (readText rows (length old) t))) × (new ≡ listAfter (readText rows (length old) t) old)
+
+pub read-text : (t : List ℕ) (old new new′ : List Field) (r r′ : Message) → ReadsText t old new r → ReadsText t old new′ r′ → (r ≡ r′) × (new ≡ new′)
+read-text t old new new′ r r′ p q = (p .0 ∙ sym (q .0), p .1 ∙ sym (q .1))
+
+abbrev WritesText : (m : text.Message) → (slice old new : List ℕ) → Answer → Type 0
+WritesText m slice old new r = (r ≡ writtenAnswer (writeText rows m slice (length old))) × (new ≡ writtenOver (writeText rows m slice (length old)) old)
+
+pub write-text : (m : text.Message) (slice old new new′ : List ℕ) (r r′ : Answer) → WritesText m slice old new r → WritesText m slice old new′ r′ → (r ≡ r′) × (new ≡ new′)
+write-text m slice old new new′ r r′ p q = (p .0 ∙ sym (q .0), p .1 ∙ sym (q .1))
+
+abbrev Conforms : (type0 type1 : ℕ) → List Field → Answer → Type 0
+Conforms a b l r = r ≡ conformityAnswer (answered (conforms a b l))
+
+pub conformity : (a b : ℕ) (l : List Field) (r r′ : Answer) → Conforms a b l r → Conforms a b l r′ → r ≡ r′
+conformity a b l r r′ p q = p ∙ sym q
