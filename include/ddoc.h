@@ -1,7 +1,8 @@
 /* The C interface of the library: the data codewords of a symbol are read into text and back, a text into the fields of a
  * message and back, and the fields of a message are held against the table of its type.
  * Nothing is kept between two calls and nothing is shared, so calls may run in several threads at once,
- * as long as each has its own output. All memory is the caller's; the library needs memcpy and memset only. */
+ * as long as each has its own output and work slice. All memory is the caller's but the stack, of which a call takes up to
+ * 120 KB (ddoc_read_symbol, of codewords that change the mode at every place). The library needs memcpy and memset only. */
 #ifndef DDOC_H
 #define DDOC_H
 
@@ -13,10 +14,10 @@
 extern "C" {
 #endif
 
-/* What comes back. number 0: accepted. Any other number is a refusal of document 01, "Numbers that come back". */
+/* What comes back. number 0: accepted. Any other number is a refusal: README.md, "Refusals". */
 typedef struct {
     size_t number; /* 0, or the refusal's number */
-    size_t place;  /* refused: an index from 0 into the input, the record's, or the row, as document 01 says; else 0 */
+    size_t place;  /* refused: an index from 0 into the input, the record's index, or the row for 29; else 0 */
     size_t length; /* accepted: characters of text, or codewords of a symbol written; 0 for conformity; refused: 0 */
     size_t used;   /* symbol accepted: codewords before the first pad, all of them if there is no pad; else 0 */
 } ddoc_answer;
@@ -48,7 +49,7 @@ typedef struct {
     size_t place;            /* refused: an index from 0 into the text; accepted: 0 */
     size_t fields;           /* records in the lent list, at most 64 */
     size_t signature_length; /* 64, 96 or 132 */
-    size_t signed_length;    /* the signed part: so many characters from the text's beginning, up to the mark 31 */
+    size_t signed_length;    /* the signed part: so many characters from the text's beginning, up to the mark 31 and without it */
     ddoc_header header;
     uint8_t signature[132]; /* zero behind its length */
 } ddoc_message;
@@ -63,7 +64,7 @@ enum { DDOC_WORK = 8192, DDOC_LARGEST = 1558 };
 
 /* Writes `length` characters into the smallest symbol that holds them, of at most `largest` data codewords, which has to be
  * the capacity of a square size. The symbol is padded: its `length` codewords, `used` of them before the padding, stand in
- * the first bytes of the lent `symbol`, which has `room` bytes; 1,558 always do, and 1,050 as a text has at most 1,000 characters.
+ * the first bytes of the lent `symbol`, which has `room` bytes; 1,558 always suffice, and so do 1,050, since a text has at most 1,000 characters.
  * Refused, in this order: 5 more than 1,000 characters; 7 a character above 127, at its place; 8 `largest` is no capacity;
  * 6 `work_room` is less than 8,192; 9 no permitted size fits; 6 `room` is less than the symbol chosen.
  * Accepted: the bytes behind the symbol are untouched. Refused: every byte is untouched.
@@ -74,7 +75,8 @@ ddoc_answer ddoc_write_symbol(const uint8_t *text, size_t length, size_t largest
 
 /* Reads a text of `length` characters into the lent list `fields`, which has `room` records. Less than 64 is refused
  * with 6. Accepted: the first records of the list, as many as the answer's `fields`, are the fields in the order of
- * the text, with starts that count from the text's beginning; the others are untouched. Refused: all are untouched. */
+ * the text, with starts that count from the text's beginning; the others are untouched. Refused: all are untouched.
+ * The text and the list must not overlap. */
 ddoc_message ddoc_read_text(const uint8_t *text, size_t length, ddoc_field *fields, size_t room);
 
 /* Writes the message of a header, `count` records, the data that they point into, and a signature into the lent `out`,

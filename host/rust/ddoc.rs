@@ -10,7 +10,7 @@
 #[derive(Clone, Copy, Debug, PartialEq, Eq)]
 pub struct Answer {
     pub number: usize,
-    /// Refused: the index of the codeword, character or record, or the place in the header. Accepted: 0.
+    /// Refused: the index of the codeword, character or record, the place in the header, or the row for 29. Accepted: 0.
     pub place: usize,
     /// Characters of text, or codewords of a symbol written; 0 if refused and for conformity.
     pub length: usize,

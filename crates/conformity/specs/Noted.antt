@@ -75,7 +75,7 @@ unfoldable pub notedAll : Seen → (i : ℕ) → List Field → Seen
 notedAll s i [] = s
 notedAll s i (f ∷ fs) = notedAll (noted s i f) (suc i) fs
 
--- the least row that is missing, or one that is none
+-- the least row that is missing, or a number that is no row's
 abbrev pub missingSays : ℕ → Answer (Unit {0})
 missingSays n = pick (ltb n rowCount) (refused identifier-missing n) (good tt)
 

@@ -182,7 +182,7 @@ pub extern "C" fn ddoc_read_text(text: &[u8], fields: &mut [Field]) -> Message
     w.message
 }
 
-// The records by value; their count says how many the caller has, if it is more than 64 or not.
+// The records by value; their count says how many the caller has, whether they are more than 64 or not.
 fn write_numbers(
     header: Header,
     f: Fields,

@@ -192,7 +192,7 @@ fn base_of(a: u8) -> u8
     111
 }
 
-// The digits 0 to 9 and then the letters A to Z, from 0.
+// The digits 0 to 9 and then the letters A to Z, from 0. What is neither gives a number too, which is then found to be no such row's.
 fn digit_of(b: u8) -> u8
     ensures { λ r. ⌜ r ≡ digitOf b ⌝ }
 {

@@ -24,7 +24,7 @@ abbrev pub verdict : {A : Type 0} → Answer A → Refusal
 verdict (good a) = refusal 0 0
 verdict (refused k p) = refusal k p
 
--- may the character c stand at the place p of a header?
+-- may the character c stand at the place p of a header? Asked of the places from 4 on, but for the perimeter's
 abbrev pub inPlace : (p c : ℕ) → Bool
 inPlace p c = pick (ltb p 6) (upper c) (pick (ltb p 12) (upperOrDigit c) (pick (ltb p 20) (hex c) (pick (ltb p 22) (upperOrDigit c) (upper c))))
 

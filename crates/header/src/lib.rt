@@ -35,7 +35,7 @@ pub enum VersionRead {
     Unknown,
 }
 
-// A header that was read, with its version; or, where the refusal's number is not 0, nothing but zeros.
+// A header that was read, with its version; or, where the refusal's number is not 0, zeros and the version 02.
 pub struct HeaderRead {
     pub refusal: refusal::Refusal,
     pub version: Version,

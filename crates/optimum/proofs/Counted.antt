@@ -21,8 +21,7 @@ use Rattle.codeword.specs.declared.Lone.the-variants.{Ends, Last, Bad}
 use Rattle.codeword.specs.declared.Pair.{Pair}
 use Rattle.codeword.specs.declared.Pair.the-variants.{Three, Outside}
 use Rattle.codeword.specs.Meanings.{ascii, lone, pair, value, unfinished}
-use Rattle.codeword.specs.Reading.{Reading, good, refused, cons, Step, end, refuse, behind, give, put, finish, onAscii, onLone, onPair}
-use Rattle.codeword.specs.Reading.{Mode, inAscii, inC40, read}
+use Rattle.codeword.specs.Reading.{Reading, good, refused, cons, Step, end, refuse, behind, give, put, finish, onAscii, onLone, onPair, Mode, inAscii, inC40, read}
 use Rattle.optimum.proofs.Accepted.{Ticked, from-tick, ticked}
 
 abbrev pub Len : (padded : Bool) → ℕ → ℕ → Type 0

@@ -23,15 +23,13 @@ use Rattle.codeword.specs.declared.Pair.{Pair}
 use Rattle.codeword.specs.declared.Pair.the-variants.{Three, Outside}
 use Rattle.codeword.specs.Meanings
 use Rattle.codeword.specs.Meanings.{ascii, lone, unfinished}
-use Rattle.codeword.specs.Reading.{Reading, good, refused, cons, tick, Step, end, behind, give, finish, onAscii, onLone, onPair, Mode}
-use Rattle.codeword.specs.Reading.{inAscii, inC40, read}
+use Rattle.codeword.specs.Reading.{Reading, good, refused, cons, tick, Step, end, behind, give, finish, onAscii, onLone, onPair, Mode, inAscii, inC40, read}
 use Rattle.codeword.specs.Best.{_≼_, none-differs, differs, equals}
 use Rattle.optimum.specs.Cost.{asc, d0, digit, cost}
 use Rattle.optimum.specs.Write.{odd, fits, next, third, Move, one, two, none, pack, pair, character, lastOne, move, run, write}
 use Rattle.optimum.proofs.Values.{Chars, Bytes}
 use Rattle.optimum.proofs.Codes.{is-one, Digits, is-two, is-latch, is-ends, is-last, Packed, is-three}
-use Rattle.optimum.proofs.Accepted.{Front, from-give, from-finish, one-value, two-values, three-values, Twice, from-values, front}
-use Rattle.optimum.proofs.Accepted.{twice}
+use Rattle.optimum.proofs.Accepted.{Front, from-give, from-finish, one-value, two-values, three-values, Twice, from-values, front, twice}
 use Rattle.optimum.proofs.Lower.{lower}
 use Rattle.optimum.proofs.Forced.{Same, heads, forced, Third, at-most}
 use Rattle.optimum.proofs.Attain.{Leads, none-left, go-move}

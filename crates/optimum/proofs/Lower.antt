@@ -27,12 +27,10 @@ use Rattle.codeword.specs.Reading.{good, Step, end, refuse, behind, give, put, 
 use Rattle.codeword.specs.Characters.{setOf}
 use Rattle.optimum.specs.Cost.{asc, d0, d1, d2, fil, base, pairs, before, cost}
 use Rattle.optimum.specs.Write.{odd}
-use Rattle.optimum.proofs.Edge.{Shifted, char-edge, digit-edge, digit2-edge, basic0, basic1, basic2, shifted0, shifted1, shifted2}
-use Rattle.optimum.proofs.Edge.{latch-edge, unlatch-edge, filler-edge, third-edge}
+use Rattle.optimum.proofs.Edge.{Shifted, char-edge, digit-edge, digit2-edge, basic0, basic1, basic2, shifted0, shifted1, shifted2, latch-edge, unlatch-edge, filler-edge, third-edge}
 use Rattle.optimum.proofs.Values.{char-of, shift-of}
 use Rattle.optimum.proofs.Codes.{Digits, is-two, Packed, is-three}
-use Rattle.optimum.proofs.Accepted.{Front, from-give, Ticked, from-tick, one-value, two-values, three-values, behind-two, Twice}
-use Rattle.optimum.proofs.Accepted.{from-values, front, ticked, twice}
+use Rattle.optimum.proofs.Accepted.{Front, from-give, Ticked, from-tick, one-value, two-values, three-values, behind-two, Twice, from-values, front, ticked, twice}
 
 -- a shift to s was sent: the next character is of the set s, and what follows it costs at most m
 abbrev pub Own : (List ℕ → ℕ) → Set → List ℕ → ℕ → Type 0

@@ -21,8 +21,7 @@ use Rattle.codeword.specs.declared.Lone.the-variants.{Ends, Last, Bad}
 use Rattle.codeword.specs.declared.Pair.{Pair}
 use Rattle.codeword.specs.declared.Pair.the-variants.{Three, Outside}
 use Rattle.codeword.specs.Meanings.{ascii, lone, pair, value, unfinished}
-use Rattle.codeword.specs.Reading.{Reading, good, refused, cons, tick, Step, end, refuse, behind, give, put, finish, onAscii, onLone}
-use Rattle.codeword.specs.Reading.{onPair, Mode, inAscii, inC40, read}
+use Rattle.codeword.specs.Reading.{Reading, good, refused, cons, tick, Step, end, refuse, behind, give, put, finish, onAscii, onLone, onPair, Mode, inAscii, inC40, read}
 
 abbrev More : Step → List ℕ → ℕ → Bool → Type 0
 More o t n b = (r : ℕ) → length t ≤ r → o r ≡ good t n b

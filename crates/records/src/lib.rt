@@ -12,7 +12,7 @@ ghost use Rattle.conformity.specs.Conformity.{conforms};
 ghost use Rattle.conformity.specs.Noted.{answered};
 ghost use Rattle.records.specs.Lists.{noFields, pasted, withRecord, byValue};
 
-// The record at i, if it counts or not.
+// The record at i, whether it counts or not.
 fn record_at(f: Fields, i: usize) -> Field
     requires { ⌜ i < most-fields ⌝ }
     ensures { λ r. ⌜ r ≡ getD (f .list) i noField ⌝ }

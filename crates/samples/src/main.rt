@@ -1,4 +1,5 @@
-// Runs the samples of document 01 and prints what comes out; the file stdout has what must come out.
+// Runs the samples of document 01, and the published examples that stand in the file stdin, and prints what comes out; the file stdout has what must
+// come out.
 ghost use mathlib.Core.Path.{_≡_};
 ghost use Prim.Native.Nat.{_<_, _≤_};
 ghost use lib.ListN.{length};

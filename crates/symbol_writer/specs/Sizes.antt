@@ -3,8 +3,7 @@ use Prim.Native.Nat.{ℕ, _≤_}
 use mathlib.Core.Bool.{false}
 use mathlib.Core.List.{List}
 use mathlib.Core.Path.{_≡_}
-use Rattle.codeword.specs.Sizes.{most-codewords}
-use Rattle.codeword.specs.Sizes.{capacities}
+use Rattle.codeword.specs.Sizes.{most-codewords, capacities}
 use Rattle.optimum.specs.Cost.{asc, cost}
 use Rattle.optimum.specs.Write.{Choice, at, nothing, choose, fewest}
 use Rattle.symbol_writer.specs.declared.costs.Least.{Least}

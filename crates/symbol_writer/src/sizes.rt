@@ -12,7 +12,7 @@ pub enum Size {
     NoneFits,
 }
 
-// Whether exactly n codewords will do, where n has the parity that counts.
+// Whether exactly n codewords will do: the cost of n's parity decides.
 fn full_fits(full: Least, n: usize) -> bool
     ensures { λ r. ⌜ r ≡ leb (leastAt full (odd n)) n ⌝ }
 {
