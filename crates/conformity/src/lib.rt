@@ -4,6 +4,7 @@ mod table;
 
 use dictionary::Field;
 use dictionary::Fields;
+use dictionary::ROW_COUNT;
 use refusal::Refusal;
 ghost use mathlib.Core.Path.{_≡_};
 ghost use mathlib.Core.List.{[], _∷_};
@@ -22,7 +23,7 @@ pub enum Conformity {
 // What is kept of the fields so far: the column of their type, of each row its mark, and the place of the first field that is not permitted.
 pub struct Seen {
     pub column: usize,
-    pub rows: [u8; 110],
+    pub rows: [u8; ROW_COUNT],
     pub wrong: bool,
     pub place: usize,
 }
@@ -69,7 +70,7 @@ fn wide(x: u16) -> usize
 }
 
 // The marks of the rows in a column. What is no column permits none.
-fn marks_of(column: usize) -> [u8; 110]
+fn marks_of(column: usize) -> [u8; ROW_COUNT]
     ensures { λ r. ⌜ r ≡ marksOf column rowCount 0 ⌝ }
 {
     match column {
@@ -78,7 +79,7 @@ fn marks_of(column: usize) -> [u8; 110]
         2 => table::HOME_02,
         3 => table::SCHOOL_B0,
         4 => table::SCHOOL_B1,
-        _ => [0; 110],
+        _ => [0; ROW_COUNT],
     }
 }
 
@@ -114,7 +115,7 @@ pub fn note(s: Seen, i: usize, f: Field) -> Seen
     ensures { λ r. ⌜ r ≡ noted s i f ⌝ }
 {
     let n = wide(f.row);
-    if 110 <= n {
+    if ROW_COUNT <= n {
         return wrong_at(s, i);
     }
     let mark = s.rows[n];
@@ -130,7 +131,7 @@ pub fn note(s: Seen, i: usize, f: Field) -> Seen
 }
 
 // "La donnée 10 et les données (11, 12, 13) sont interchangeables."
-fn by_star(rows: &[u8; 110], n: usize) -> bool
+fn by_star(rows: &[u8; ROW_COUNT], n: usize) -> bool
     ensures { λ r. ⌜ r ≡ replaced (isThere (now (rows .entry))) (footnote-star ∷ []) n ⌝ }
 {
     if n == 13 {
@@ -154,7 +155,7 @@ fn by_star(rows: &[u8; 110], n: usize) -> bool
 }
 
 // "Les données B0 et B1 sont interchangeables."
-fn by_six(rows: &[u8; 110], n: usize) -> bool
+fn by_six(rows: &[u8; ROW_COUNT], n: usize) -> bool
     ensures { λ r. ⌜ r ≡ replaced (isThere (now (rows .entry))) (footnote-6 ∷ []) n ⌝ }
 {
     if n == 89 {
@@ -167,7 +168,7 @@ fn by_six(rows: &[u8; 110], n: usize) -> bool
 }
 
 // Is all there that a footnote of its table exchanges the row for?
-fn is_replaced(column: usize, rows: &[u8; 110], n: usize) -> bool
+fn is_replaced(column: usize, rows: &[u8; ROW_COUNT], n: usize) -> bool
     requires { ⌜ column < 5 ⌝ }
     ensures { λ r. ⌜ r ≡ replaced (isThere (now (rows .entry))) (tableAt column .exchanges) n ⌝ }
 {
@@ -180,13 +181,13 @@ fn is_replaced(column: usize, rows: &[u8; 110], n: usize) -> bool
     false
 }
 
-// "each O identifier present": the least row that is missing, or 110.
-fn first_missing(column: usize, rows: &[u8; 110]) -> usize
+// "each O identifier present": the least row that is missing, or the count of rows.
+fn first_missing(column: usize, rows: &[u8; ROW_COUNT]) -> usize
     requires { ⌜ column < 5 ⌝ }
     ensures { λ r. ⌜ missingSays r ≡ noneMissing (tableAt column .exchanges) (now (rows .entry)) rowCount 0 ⌝ }
 {
     let mut n = 0;
-    while n < 110 {
+    while n < ROW_COUNT {
         if rows[n] == MISSING {
             if !is_replaced(column, rows, n) {
                 return n;
@@ -194,7 +195,7 @@ fn first_missing(column: usize, rows: &[u8; 110]) -> usize
         }
         n += 1;
     }
-    110
+    ROW_COUNT
 }
 
 // "Conformity: 28, 29 for the least row missing, 30 at the first field."
@@ -210,7 +211,7 @@ pub fn decide(s: Seen) -> Conformity
     }
     let rows = s.rows;
     let n = first_missing(column, &rows);
-    if n < 110 {
+    if n < ROW_COUNT {
         return Conformity::Refused(Refusal {
             number: refusal::IDENTIFIER_MISSING,
             place: n,

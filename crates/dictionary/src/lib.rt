@@ -6,8 +6,13 @@ ghost use Prim.Native.Nat.{ℕ, _+_, _<_, _≤_, min};
 ghost use lib.ListN.{length, getD};
 ghost use Rattle.refusal.specs.Limits.{most-fields};
 ghost use Rattle.dictionary.specs.Dictionary.{between as isBetween, inKind, isLimit, fixed, allowed, find, rowAt};
-ghost use Rattle.dictionary.specs.Rows.{rows};
+ghost use Rattle.dictionary.specs.Rows.{rows, rowCount};
 ghost use Rattle.dictionary.specs.Lookup.{limitOf, kindOf, rowTable, baseOf, digitOf, placeOf, noRow, foundSays, rowFoundSays, soFar};
+
+// The rows are numbered from 0, and stand in the table with five numbers each.
+pub const ROW_COUNT: usize = 110;
+
+pub const TABLE_SIZE: usize = 550;
 
 pub enum Kind {
     Numeric,
@@ -147,15 +152,15 @@ fn kind_of(x: u8) -> Kind
 }
 
 // The table of the rows, five numbers a row. Who asks has a copy, and lends it from before a loop.
-pub fn all_rows() -> [u8; 550]
+pub fn all_rows() -> [u8; TABLE_SIZE]
     ensures { λ r. ⌜ r ≡ rowTable ⌝ }
 {
     table::ROWS
 }
 
 // The row n of the table.
-fn row_of(table: &[u8; 550], n: usize) -> Row
-    requires { ⌜ (now table ≡ rowTable) × (n < 110) ⌝ }
+fn row_of(table: &[u8; TABLE_SIZE], n: usize) -> Row
+    requires { ⌜ (now table ≡ rowTable) × (n < rowCount) ⌝ }
     ensures { λ r. ⌜ r ≡ getD rows n noRow ⌝ }
 {
     let p = 5 * n;
@@ -217,12 +222,12 @@ fn place_of(a: u8, b: u8) -> usize
 }
 
 // The row of an identifier: no search, but a look at the one place where it can stand.
-pub fn find_row(table: &[u8; 550], a: u8, b: u8) -> Found
+pub fn find_row(table: &[u8; TABLE_SIZE], a: u8, b: u8) -> Found
     requires { ⌜ now table ≡ rowTable ⌝ }
     ensures { λ r. ⌜ ((p : ℕ) → foundSays r p ≡ find a b 0 p rows) ⌝ }
 {
     let n = place_of(a, b);
-    if 110 <= n {
+    if ROW_COUNT <= n {
         return Found::Unknown;
     }
     let r = row_of(table, n);
@@ -236,11 +241,11 @@ pub fn find_row(table: &[u8; 550], a: u8, b: u8) -> Found
 }
 
 // The row of a number.
-pub fn row_at(table: &[u8; 550], n: usize) -> RowFound
+pub fn row_at(table: &[u8; TABLE_SIZE], n: usize) -> RowFound
     requires { ⌜ now table ≡ rowTable ⌝ }
     ensures { λ r. ⌜ ((i : ℕ) → rowFoundSays r i ≡ rowAt rows n i) ⌝ }
 {
-    if 110 <= n {
+    if ROW_COUNT <= n {
         return RowFound::NoRow;
     }
     RowFound::Is(row_of(table, n))

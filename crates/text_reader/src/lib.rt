@@ -180,11 +180,11 @@ fn read_record(n: usize, r: dictionary::Row, text: &[u8], p: usize, end: usize) 
 // The field whose identifier stands at p, behind `count` fields that take the rows marked in `used`. `table` is the dictionary's, lent.
 // "fields left to right: 17 for half an identifier, 16, 20, 27, the data left to right"
 fn read_field(
-    table: &[u8; 550],
+    table: &[u8; dictionary::TABLE_SIZE],
     text: &[u8],
     p: usize,
     end: usize,
-    used: &[bool; 110],
+    used: &[bool; dictionary::ROW_COUNT],
     count: usize,
 ) -> FieldRead
     requires { ⌜ (now table ≡ rowTable) × (p < end) × (end ≤ length (now text)) × (length (now text) ≤ limit) × (count ≤ most-fields) ⌝ }
@@ -237,7 +237,7 @@ fn read_zone(text: &[u8], start: usize, end: usize) -> ZoneRead
     ensures { λ x. ⌜ x ≡ zoneAnswer (zone rows most-fields [] start (slice start end (now (text .entry)))) ⌝ }
 {
     let table = dictionary::all_rows();
-    let mut used = [false; 110];
+    let mut used = [false; dictionary::ROW_COUNT];
     let mut out = no_fields();
     let mut p = start;
     while p < end {

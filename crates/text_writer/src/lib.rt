@@ -168,7 +168,13 @@ fn room_of_data(r: Row, chars: &[u8], cut: bool, i: usize) -> Room
 
 // One record, whose place is its index i. `table` is the dictionary's, lent; `rows` are the rows of the records before it. Start and
 // length are added as numbers of 64 bits, so that the sum is exact.
-fn room_of_field(table: &[u8; 550], f: Field, rows: &[u16], slice: &[u8], i: usize) -> Room
+fn room_of_field(
+    table: &[u8; dictionary::TABLE_SIZE],
+    f: Field,
+    rows: &[u16],
+    slice: &[u8],
+    i: usize,
+) -> Room
     requires { ⌜ now table ≡ rowTable ⌝ }
     ensures says { λ x. ⌜ ((before : List FieldOf) → rowsOf before ≡ now (rows .entry) → x ≡ roomOf (writeField theRows (now (slice .entry)) before i f)) ⌝ }
     ensures small { λ x. ⌜ Below (widest + 3) x ⌝ }
@@ -284,7 +290,12 @@ fn write_spelled(r: Row, chars: &[u8], cut: bool, out: &mut [u8]) -> usize
 }
 
 // A record's characters over the front of the output, and how many they are. `table` is the dictionary's, lent.
-fn write_field(table: &[u8; 550], f: Field, slice: &[u8], out: &mut [u8]) -> usize
+fn write_field(
+    table: &[u8; dictionary::TABLE_SIZE],
+    f: Field,
+    slice: &[u8],
+    out: &mut [u8],
+) -> usize
     requires { ⌜ (now table ≡ rowTable) × (f .start + f .length ≤ length (now slice)) × (length (fieldChars theRows (now slice) f) ≤ length (now out)) ⌝ }
     ensures is { λ x. ⌜ x ≡ length (fieldChars theRows (now (slice .entry)) f) ⌝ }
     ensures written { λ x. ⌜ now (out .exit) ≡ over (fieldChars theRows (now (slice .entry)) f) (now (out .entry)) ⌝ }
