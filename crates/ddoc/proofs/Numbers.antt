@@ -1,18 +1,14 @@
 -- The answers of the layers below, turned into numbers, are what the definitions of this crate say.
 -- Assumes nothing.
-use mathlib.Core.Path.{_≡_, refl, ap, sym, _∙_}
+use mathlib.Core.Path.{_≡_, refl}
 use mathlib.Core.List.{List}
 use Prim.Native.Nat.{ℕ}
 use Rattle.codeword.specs.Reading.{Reading, good, refused}
 use Rattle.symbol_reader.specs.declared.SymbolRead.{SymbolRead}
 use Rattle.symbol_reader.specs.declared.SymbolRead.the-variants.{Text, Refused}
 use Rattle.symbol_reader.specs.Answers.{answered}
-use Rattle.dictionary.specs.declared.Field.{Field}
-use Rattle.conformity.specs.Conformity.{conforms}
-use Rattle.conformity.specs.Noted.{answered as as-enum}
 use Rattle.ddoc.specs.declared.Answer.{Answer}
-use Rattle.ddoc.specs.Answers.{readingAnswer, writingAnswer, Writes, conformityAnswer, writtenAnswer}
-use Rattle.symbol_writer.proofs.Promise as symbol-writer
+use Rattle.ddoc.specs.Answers.{readingAnswer, writtenAnswer}
 use Rattle.refusal.specs.Answers.{Answer as Outcome, good as written, refused as unwritten}
 use Rattle.text_writer.specs.declared.TextWritten.{TextWritten}
 use Rattle.text_writer.specs.declared.TextWritten.the-variants.{Written, Refused as Unwritten}

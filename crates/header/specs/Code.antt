@@ -1,13 +1,13 @@
 -- What the answers of the code's functions say, by the definitions.
 use Prim.Native.Nat.{ℕ, _≤_, _<_}
-use mathlib.Core.Bool.{Bool, true, false, _&&_}
+use mathlib.Core.Bool.{Bool, true, false}
 use mathlib.Core.List.{List}
 use mathlib.Core.Path.{_≡_}
 use lib.Dec.{ltb, eqb}
 use lib.ListN.{getD, replicate}
 use Rattle.refusal.specs.Pick.{pick}
 use Rattle.refusal.specs.Answers.{Answer, good, refused, _>>_}
-use Rattle.refusal.specs.Numbers.{unknown-version, wrong-perimeter, refusal}
+use Rattle.refusal.specs.Numbers.{unknown-version, refusal}
 use Rattle.refusal.specs.Chars.{charsAt}
 use Rattle.refusal.specs.declared.Refusal.{Refusal}
 use Rattle.dictionary.specs.Dictionary.{upper}
@@ -40,7 +40,7 @@ pub record FirstWrong (t : List ℕ) (from to r : ℕ) : Type 0 where
   pub here : r < to → inPlace r (getD t r 0) ≡ false
 
 abbrev pub perimeterVerdict : List ℕ → Refusal
-perimeterVerdict t = pick (eqb (getD t 22 0) 48 && eqb (getD t 23 0) 49) (refusal 0 0) (refusal wrong-perimeter 22)
+perimeterVerdict t = verdict (perimeterIn V03 t)
 
 abbrev pub countryVerdict : List ℕ → Refusal
 countryVerdict t = verdict (countryIn V04 t)

@@ -61,7 +61,7 @@ array-share-prefix-buffer c =
 slice-aggregate-copy : tie.Need-slice-aggregate-copy
 slice-aggregate-copy c =
     let c2 = c .before .before in
-    sym (length-take-le (c2 .answer .given .0 .0) (c2 .before .before .before .read-ascii .last .1 .1 .0) (array-share-prefix-buffer (c .before)))
+    sym (length-take-le _ (c2 .before .before .before .read-ascii .last .1 .1 .0) (array-share-prefix-buffer (c .before)))
 
 copy-requires : tie.Need-copy-requires
 copy-requires c κs =
