@@ -1,4 +1,4 @@
--- The numbers of document 01's table, by name, and a refusal with its place.
+-- The numbers of document 01's table and of document 02's requests, by name, and a refusal with its place.
 use Prim.Native.Nat.{ℕ}
 use Rattle.refusal.specs.declared.Refusal.{Refusal}
 
@@ -125,6 +125,34 @@ identifier-not-permitted = 30
 -- writing: a record names no row, or its start plus length passes its slice's length
 abbrev pub bad-record : ℕ
 bad-record = 31
+
+-- check words: a capacity above 174, so more than one block
+abbrev pub several-blocks : ℕ
+several-blocks = 32
+
+-- mending: no right list lies near enough
+abbrev pub none-near : ℕ
+none-near = 34
+
+-- day file: not records side by side with their trailer, or above 32,768 bytes
+abbrev pub bad-file : ℕ
+bad-file = 35
+
+-- day file: no room for one more
+abbrev pub file-full : ℕ
+file-full = 36
+
+-- day file: no record has the number, or it is withdrawn
+abbrev pub no-scan : ℕ
+no-scan = 37
+
+-- tally: a count would pass its greatest
+abbrev pub count-full : ℕ
+count-full = 38
+
+-- a pad that is not what the padding rule gives
+abbrev pub wrong-pad : ℕ
+wrong-pad = 39
 
 abbrev pub refusal : (number place : ℕ) → Refusal
 refusal n p = record { number = n; place = p }

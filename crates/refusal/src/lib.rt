@@ -82,6 +82,20 @@ pub const IDENTIFIER_NOT_PERMITTED: u8 = 30;
 
 pub const BAD_RECORD: u8 = 31;
 
+pub const SEVERAL_BLOCKS: u8 = 32;
+
+pub const NONE_NEAR: u8 = 34;
+
+pub const BAD_FILE: u8 = 35;
+
+pub const FILE_FULL: u8 = 36;
+
+pub const NO_SCAN: u8 = 37;
+
+pub const COUNT_FULL: u8 = 38;
+
+pub const WRONG_PAD: u8 = 39;
+
 // A text has at most 1,000 characters.
 pub const LIMIT: usize = 1000;
 
