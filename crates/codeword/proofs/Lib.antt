@@ -1,4 +1,4 @@
 -- What several proofs use.
 pub mod Sizes
 pub mod Characters
-pub mod Places
+pub mod Ranges
