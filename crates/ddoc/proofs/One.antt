@@ -1,5 +1,5 @@
--- What each exported function promises, of its answer and of what was lent, leaves one answer. Four promises are equations; that of writing a
--- symbol speaks of the best symbol, which is one.
+-- What each exported function promises, of its answer and of what was lent, leaves one answer. All promises are equations but that of writing a
+-- symbol, which speaks of the best symbol, which is one.
 -- Assumes nothing.
 use Prim.Native.Nat.{ℕ}
 use mathlib.Core.List.{List}
@@ -16,9 +16,13 @@ use Rattle.text.specs.Text.{readText, writeText}
 use Rattle.text.specs.Text as text
 use Rattle.text_reader.specs.Answers.{textAnswer}
 use Rattle.text_writer.specs.Writing.{writtenOver}
+use Rattle.day_file.specs.Promise.{adding, withdrawing, placing, sliceAfter}
+use Rattle.day_file.specs.Answers.{addedAnswer, withdrawnAnswer, placedAnswer}
 use Rattle.ddoc.specs.declared.Answer.{Answer}
 use Rattle.ddoc.specs.declared.Message.{Message}
+use Rattle.ddoc.specs.declared.Part.{Part}
 use Rattle.ddoc.specs.Answers.{readingAnswer, writingAnswer, Writes, conformityAnswer, messageAnswer, listAfter, writtenAnswer}
+use Rattle.ddoc.specs.Files.{addedNumbers, withdrawnNumbers, partNumbers}
 
 abbrev ReadsSymbol : (codewords old new : List ℕ) → Answer → Type 0
 ReadsSymbol ws old new r = (r ≡ readingAnswer (readSymbol ws (length old))) × (new ≡ lentAfter (readSymbol ws (length old)) old)
@@ -49,3 +53,21 @@ Conforms a b l r = r ≡ conformityAnswer (answered (conforms a b l))
 
 pub conformity : (a b : ℕ) (l : List Field) (r r′ : Answer) → Conforms a b l r → Conforms a b l r′ → r ≡ r′
 conformity a b l r r′ p q = p ∙ sym q
+
+abbrev Adds : (old : List ℕ) (len : ℕ) (text new : List ℕ) → Answer → Type 0
+Adds old len t new r = (r ≡ addedNumbers (addedAnswer (adding old len t))) × (new ≡ sliceAfter (adding old len t) old)
+
+pub day-add : (old : List ℕ) (len : ℕ) (t new new′ : List ℕ) (r r′ : Answer) → Adds old len t new r → Adds old len t new′ r′ → (r ≡ r′) × (new ≡ new′)
+day-add old len t new new′ r r′ p q = (p .0 ∙ sym (q .0), p .1 ∙ sym (q .1))
+
+abbrev Withdraws : (old : List ℕ) (len number : ℕ) (new : List ℕ) → Answer → Type 0
+Withdraws old len k new r = (r ≡ withdrawnNumbers len (withdrawnAnswer (withdrawing old len k))) × (new ≡ sliceAfter (withdrawing old len k) old)
+
+pub day-withdraw : (old : List ℕ) (len k : ℕ) (new new′ : List ℕ) (r r′ : Answer) → Withdraws old len k new r → Withdraws old len k new′ r′ → (r ≡ r′) × (new ≡ new′)
+day-withdraw old len k new new′ r r′ p q = (p .0 ∙ sym (q .0), p .1 ∙ sym (q .1))
+
+abbrev Fetches : (file : List ℕ) (len number : ℕ) → Part → Type 0
+Fetches file len k r = r ≡ partNumbers (placedAnswer (placing file len k))
+
+pub day-fetch : (file : List ℕ) (len k : ℕ) (r r′ : Part) → Fetches file len k r → Fetches file len k r′ → r ≡ r′
+day-fetch file len k r r′ p q = p ∙ sym q

@@ -11,7 +11,13 @@ ghost use Rattle.text.specs.Text.{readText, writeText};
 ghost use Rattle.text_reader.specs.Answers.{textAnswer};
 ghost use Rattle.text_writer.specs.Writing.{writeFirst, writtenOver};
 ghost use Rattle.ddoc.specs.Answers.{readingAnswer, Writes, conformityAnswer, refusalOf, messageAnswer, wholeAnswer, listAfter, writtenAnswer};
+ghost use Rattle.day_file.specs.Promise.{adding, withdrawing, placing, sliceAfter};
+ghost use Rattle.day_file.specs.Answers.{addedAnswer, withdrawnAnswer, placedAnswer};
+ghost use Rattle.ddoc.specs.Files.{addedNumbers, withdrawnNumbers, partNumbers};
 use conformity::Conformity;
+use day_file::Added;
+use day_file::Placed;
+use day_file::Withdrawn;
 use dictionary::Field;
 use dictionary::Fields;
 use header::Header;
@@ -224,4 +230,83 @@ pub extern "C" fn ddoc_write_text(
 {
     let f = records::take_fields(fields);
     write_numbers(header, f, slice, signature, out)
+}
+
+// A part of a lent slice. Refused: start and length 0.
+#[repr(C)]
+pub struct Part {
+    pub number: usize,
+    pub place: usize,
+    pub which: usize,
+    pub start: usize,
+    pub length: usize,
+}
+
+// The answer's length is the file's now, and `used` the number of the record added.
+#[no_mangle]
+pub extern "C" fn ddoc_day_add(file: &mut [u8], len: usize, text: &[u8]) -> Answer
+    ensures answer { λ r. ⌜ r ≡ addedNumbers (addedAnswer (adding (now (file .entry)) len (now (text .entry)))) ⌝ }
+    ensures lent { λ r. ⌜ now (file .exit) ≡ sliceAfter (adding (now (file .entry)) len (now (text .entry))) (now (file .entry)) ⌝ }
+{
+    let answer = day_file::add(file, len, text);
+    match answer {
+        Added::Done(n, size) => Answer {
+            number: 0,
+            place: 0,
+            length: size,
+            used: n,
+        },
+        Added::NotAdded(r) => Answer {
+            number: r.number as usize,
+            place: r.place,
+            length: 0,
+            used: 0,
+        },
+    }
+}
+
+// The answer's length is the file's, as it was.
+#[no_mangle]
+pub extern "C" fn ddoc_day_withdraw(file: &mut [u8], len: usize, number: usize) -> Answer
+    ensures answer { λ r. ⌜ r ≡ withdrawnNumbers len (withdrawnAnswer (withdrawing (now (file .entry)) len number)) ⌝ }
+    ensures lent { λ r. ⌜ now (file .exit) ≡ sliceAfter (withdrawing (now (file .entry)) len number) (now (file .entry)) ⌝ }
+{
+    let answer = day_file::withdraw(file, len, number);
+    match answer {
+        Withdrawn::Gone => Answer {
+            number: 0,
+            place: 0,
+            length: len,
+            used: 0,
+        },
+        Withdrawn::NotGone(r) => Answer {
+            number: r.number as usize,
+            place: r.place,
+            length: 0,
+            used: 0,
+        },
+    }
+}
+
+#[no_mangle]
+pub extern "C" fn ddoc_day_fetch(file: &[u8], len: usize, number: usize) -> Part
+    ensures { λ r. ⌜ r ≡ partNumbers (placedAnswer (placing (now (file .entry)) len number)) ⌝ }
+{
+    let answer = day_file::place(file, len, number);
+    match answer {
+        Placed::At(start, n) => Part {
+            number: 0,
+            place: 0,
+            which: 0,
+            start: start,
+            length: n,
+        },
+        Placed::Nowhere(r) => Part {
+            number: r.number as usize,
+            place: r.place,
+            which: 0,
+            start: 0,
+            length: 0,
+        },
+    }
 }

@@ -1,0 +1,25 @@
+-- The answers on day files as the C interface gives them.
+use Prim.Native.Nat.{ℕ}
+use Rattle.day_file.specs.declared.Added.{Added}
+use Rattle.day_file.specs.declared.Added.the-variants.{Done, NotAdded}
+use Rattle.day_file.specs.declared.Withdrawn.{Withdrawn}
+use Rattle.day_file.specs.declared.Withdrawn.the-variants.{Gone, NotGone}
+use Rattle.day_file.specs.declared.Placed.{Placed}
+use Rattle.day_file.specs.declared.Placed.the-variants.{At, Nowhere}
+use Rattle.ddoc.specs.declared.Answer.{Answer}
+use Rattle.ddoc.specs.declared.Part.{Part}
+
+-- the file's length now, and the number of the record added
+abbrev pub addedNumbers : Added → Answer
+addedNumbers (Done n size) = record { number = 0; place = 0; length = size; used = n }
+addedNumbers (NotAdded r) = record { number = r .number; place = r .place; length = 0; used = 0 }
+
+-- the file's length, as it was
+abbrev pub withdrawnNumbers : (len : ℕ) → Withdrawn → Answer
+withdrawnNumbers len Gone = record { number = 0; place = 0; length = len; used = 0 }
+withdrawnNumbers len (NotGone r) = record { number = r .number; place = r .place; length = 0; used = 0 }
+
+-- the part of the slice that is the text
+abbrev pub partNumbers : Placed → Part
+partNumbers (At start n) = record { number = 0; place = 0; which = 0; start = start; length = n }
+partNumbers (Nowhere r) = record { number = r .number; place = r .place; which = 0; start = 0; length = 0 }
