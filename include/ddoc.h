@@ -1,5 +1,5 @@
 /* The C interface of the library: the data codewords of a symbol are read into text and back, a text into the fields of a
- * message and back, and the fields of a message are held against the table of its type.
+ * message and back, the fields of a message are held against the table of its type, and scans are kept in day files.
  * Nothing is kept between two calls and nothing is shared, so calls may run in several threads at once,
  * as long as each has its own output and work slice. All memory is the caller's but the stack, of which a call takes up to
  * 120 KB (ddoc_read_symbol, of codewords that change the mode at every place). The library needs memcpy and memset only. */
@@ -18,8 +18,8 @@ extern "C" {
 typedef struct {
     size_t number; /* 0, or the refusal's number */
     size_t place;  /* refused: an index from 0 into the input, the record's index, or the row for 29; else 0 */
-    size_t length; /* accepted: characters of text, or codewords of a symbol written; 0 for conformity; refused: 0 */
-    size_t used;   /* symbol accepted: codewords before the first pad, all of them if there is no pad; else 0 */
+    size_t length; /* accepted: characters of text, codewords of a symbol written, bytes of a day file; 0 for conformity; refused: 0 */
+    size_t used;   /* symbol accepted: codewords before the first pad, all of them if there is no pad; record added: its number; else 0 */
 } ddoc_answer;
 
 /* A field: a row of the dictionary, and where its data stand in a slice. 12 bytes. */
@@ -53,6 +53,15 @@ typedef struct {
     ddoc_header header;
     uint8_t signature[132]; /* zero behind its length */
 } ddoc_message;
+
+/* A part of a slice that was lent. */
+typedef struct {
+    size_t number; /* 0, or the refusal's number */
+    size_t place;  /* refused: 0 for a day file; else 0 */
+    size_t which;  /* 0 where one slice is lent */
+    size_t start;  /* accepted: index of the part's first byte; refused: 0 */
+    size_t length; /* accepted: its length; refused: 0 */
+} ddoc_part;
 
 /* Reads `count` codewords into the lent `text`, which has `room` bytes. Less than 1,000 is refused with 6.
  * Accepted: the first `length` bytes are the text, with no zero byte behind it; the others are untouched.
@@ -91,6 +100,27 @@ ddoc_answer ddoc_write_text(ddoc_header header, const ddoc_field *fields, size_t
  * such row; 30 for one that is not permitted, place: the first such field. The first of these counts.
  * Accepted: every number is 0. */
 ddoc_answer ddoc_conformity(uint8_t type0, uint8_t type1, const ddoc_field *fields, size_t count);
+
+/* Day files. A file stands in the first `length` bytes of the lent slice `file`, which has `room` bytes: 32,768 or more, else
+ * 6. It has at most 32,768 bytes: records side by side, each a state byte (1 live, 0 withdrawn), the text's length in two
+ * bytes and the text; then a trailer: the start of each record, their count, and the trailer's own start, in four bytes each.
+ * Every number has its high byte first. An empty file is 8 zero bytes. Each call checks the whole file first: 35 when the
+ * length is above 32,768 or the bytes are no such file. Records are numbered from 0. All places are 0; refused, every byte of the
+ * slice is untouched, and nothing behind the file is changed ever. */
+enum { DDOC_FILE = 32768 };
+
+/* Adds a live record of `text_length` bytes, whatever they are; text and file must not overlap. The answer's `length` is the file's now,
+ * `used` the record's number. Refused, in this order: 6, 35, 5 for a text of more than 1,000 bytes, 36 when the file's length plus 7
+ * plus the text's is above 32,768. */
+ddoc_answer ddoc_day_add(uint8_t *file, size_t room, size_t length, const uint8_t *text, size_t text_length);
+
+/* Withdraws the record of that number; the answer's `length` is the file's, as it was. Refused, in this order: 6, 35, 37 when the
+ * number is no record's or the record is withdrawn. */
+ddoc_answer ddoc_day_withdraw(uint8_t *file, size_t room, size_t length, size_t number);
+
+/* Where in the slice the text of the record of that number stands. Refused, in this order: 6, 35, 37, 5 when the text has more than
+ * 1,000 bytes. */
+ddoc_part ddoc_day_fetch(const uint8_t *file, size_t room, size_t length, size_t number);
 
 #ifdef __cplusplus
 }

@@ -13,6 +13,8 @@ ROOT = pathlib.Path(__file__).resolve().parents[2]
 # A lent text has 1,000 bytes or more, a lent list 64 records or more.
 TEXT_ROOM = 1000
 LIST_ROOM = 64
+# A lent day file has 32,768 bytes or more.
+FILE_ROOM = 32768
 
 
 class Answer(ctypes.Structure):
@@ -49,6 +51,12 @@ class Message(ctypes.Structure):
     _fields_ += [("header", Header), ("signature", c_uint8 * 132)]
 
 
+class Part(ctypes.Structure):
+    """A part of a lent slice; refused: start and length 0."""
+
+    _fields_ = [(name, c_size_t) for name in ("number", "place", "which", "start", "length")]
+
+
 class Refused(Exception):
     """A refusal of document 01: its number and its place."""
 
@@ -72,6 +80,9 @@ FUNCTIONS = {
         [Header, c_void_p, c_size_t, c_char_p, c_size_t, c_char_p, c_size_t, c_void_p, c_size_t],
     ),
     "ddoc_conformity": (Answer, [c_uint8, c_uint8, c_void_p, c_size_t]),
+    "ddoc_day_add": (Answer, [c_void_p, c_size_t, c_size_t, c_char_p, c_size_t]),
+    "ddoc_day_withdraw": (Answer, [c_void_p, c_size_t, c_size_t, c_size_t]),
+    "ddoc_day_fetch": (Part, [c_void_p, c_size_t, c_size_t, c_size_t]),
 }
 
 _library = None
@@ -177,3 +188,38 @@ def call_conformity(kind, fields):
 def conformity(kind, fields):
     """Nothing if the fields conform to the table of the type, given as two bytes. Raises Refused."""
     accepted(call_conformity(kind, fields)[0])
+
+
+class DayFile:
+    """A day file in a slice of `room` bytes: `file` at its front, and behind it the byte `behind`."""
+
+    def __init__(self, file=bytes(8), room=FILE_ROOM, behind=0):
+        self.slice = ctypes.create_string_buffer(bytes(file).ljust(room, bytes([behind])), max(len(file), room, 1))
+        self.room = room
+        self.length = len(file)
+
+    def call_add(self, text):
+        return function("ddoc_day_add")(self.slice, self.room, self.length, bytes(text), len(text))
+
+    def call_withdraw(self, number):
+        return function("ddoc_day_withdraw")(self.slice, self.room, self.length, number)
+
+    def call_fetch(self, number):
+        return function("ddoc_day_fetch")(self.slice, self.room, self.length, number)
+
+    def add(self, text):
+        """The number of the new record. Raises Refused."""
+        answer = self.call_add(text)
+        accepted(answer)
+        self.length = answer.length
+        return answer.used
+
+    def withdraw(self, number):
+        """Raises Refused."""
+        accepted(self.call_withdraw(number))
+
+    def fetch(self, number):
+        """The text as bytes. Raises Refused."""
+        part = self.call_fetch(number)
+        accepted(part)
+        return self.slice.raw[part.start : part.start + part.length]

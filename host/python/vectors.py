@@ -5,11 +5,14 @@ and of writing a symbol, {"text_hex", ..}, with what has to come back beside it.
 "op" is "read_symbol", with {"codewords", "lent"} in and {"text_hex"} with or without "before_pad" out; "write_symbol", with
 {"text_hex", "max_capacity", "work_len", "out_len"} in and {"symbol", "before_pad", "work"} out; "read_text", with
 {"text_hex", "fields_len"} in and {"header", "records", "signed", "signature_hex"} out, a record being [row, start, length, cut];
-"write_text", with {"header", "records", "slice_hex", "signature_hex", "out_len"} in and {"text_hex"} out; or "conformity", with
-{"type", "records"} in and {"conforms"} out. A refusal is {"refused", "place"}.
+"write_text", with {"header", "records", "slice_hex", "signature_hex", "out_len"} in and {"text_hex"} out; "conformity", with
+{"type", "records"} in and {"conforms"} out; or "day_file", with a file ("start_hex") in a slice of "slice_len" bytes, "behind" it one byte
+again and again, and "steps", calls in turn, each with what comes "out" and the "sha256" of the whole slice afterwards; a step "poke"
+changes bytes from outside. A refusal is {"refused", "place"}.
 """
 
 import ctypes
+import hashlib
 import json
 import pathlib
 import random
@@ -18,7 +21,7 @@ import sys
 import ddoc
 
 DATA = pathlib.Path(__file__).resolve().parents[1] / "data"
-STORED = ["read_symbol.jsonl", "write_symbol.jsonl", "tricky.json", "read_text.jsonl", "write_text.jsonl", "conformity.jsonl"]
+STORED = ["read_symbol.jsonl", "write_symbol.jsonl", "tricky.json", "read_text.jsonl", "write_text.jsonl", "conformity.jsonl", "day_file.jsonl"]
 # Bytes behind what is lent that nobody may touch: five records.
 GUARD = 60
 RECORD = ctypes.sizeof(ddoc.Field)
@@ -216,14 +219,67 @@ class Conformity:
         return found
 
 
-OPERATIONS = {"read_symbol": Reading, "write_symbol": Writing, "read_text": TextReading, "write_text": TextWriting, "conformity": Conformity}
+class Steps:
+    """A case of calls in turn on one day file."""
+
+    def __init__(self, given, out):
+        self.start, self.room, self.behind = bytes.fromhex(given["start_hex"]), given["slice_len"], given["behind"]
+        self.steps = [(step["call"], step, step["out"], step["sha256"]) for step in given["steps"]]
+        if not self.steps:
+            raise ValueError("no steps")
+
+    def __str__(self):
+        return f"file {self.start.hex()}, room {self.room}, {len(self.steps)} steps"
+
+    def faults(self, dice):
+        """What is wrong with the library's answers, in words; none if they are right."""
+        file = ddoc.DayFile(self.start, self.room, self.behind)
+        found = []
+        for at, (call, step, out, sha256) in enumerate(self.steps):
+            faults = getattr(self, call)(file, step, out)
+            if hashlib.sha256(file.slice.raw).hexdigest() != sha256:
+                faults.append("the slice is not what it should be")
+            found += [f"step {at}, {call}: {fault}" for fault in faults]
+        return found
+
+    def poke(self, file, step, out):
+        values = bytes.fromhex(step["values_hex"]) if "values_hex" in step else bytes([step["value"]])
+        file.slice[step["at"] : step["at"] + len(values)] = values
+        file.length = step.get("set_length", file.length)
+        return []
+
+    def add(self, file, step, out):
+        answer = file.call_add(bytes.fromhex(step["text_hex"]))
+        if "refused" in out:
+            return differences(answer, refusal(out))
+        file.length = answer.length
+        return differences(answer, {"number": 0, "place": 0, "length": out["length"], "used": out["number"]})
+
+    def withdraw(self, file, step, out):
+        right = refusal(out) if "refused" in out else {"number": 0, "place": 0, "length": file.length, "used": 0}
+        return differences(file.call_withdraw(step["number"]), right)
+
+    def fetch(self, file, step, out):
+        start, length = (out["start"], out["length"]) if "start" in out else (0, 0)
+        right = {"number": out.get("refused", 0), "place": out.get("place", 0), "which": 0, "start": start, "length": length}
+        return differences(file.call_fetch(step["number"]), right)
+
+
+OPERATIONS = {
+    "read_symbol": Reading,
+    "write_symbol": Writing,
+    "read_text": TextReading,
+    "write_text": TextWriting,
+    "conformity": Conformity,
+    "day_file": Steps,
+}
 
 
 def case_of(entry, where):
     try:
         if "in" not in entry:
             return (Reading if "codewords" in entry else Writing)(entry, entry)
-        return OPERATIONS[entry["op"]](entry["in"], entry["out"])
+        return OPERATIONS[entry["op"]](entry["in"], entry.get("out", {}))
     except (KeyError, TypeError, ValueError, AttributeError) as fault:
         raise BadFile(f"{where}: not a case: {type(fault).__name__} {fault}") from None
 

@@ -12,9 +12,9 @@ pub struct Answer {
     pub number: usize,
     /// Refused: the index of the codeword, character or record, the place in the header, or the row for 29. Accepted: 0.
     pub place: usize,
-    /// Characters of text, or codewords of a symbol written; 0 if refused and for conformity.
+    /// Characters of text, codewords of a symbol written, or bytes of a day file; 0 if refused and for conformity.
     pub length: usize,
-    /// Codewords before the first pad, all of them if there is no pad, 0 if refused and for texts.
+    /// Codewords before the first pad, all of them if there is no pad; the number of a record added; 0 if refused and for texts.
     pub used: usize,
 }
 
@@ -59,6 +59,18 @@ pub struct Message {
     pub signature: [u8; 132],
 }
 
+/// A part of a lent slice. Refused: start and length are 0.
+#[repr(C)]
+#[derive(Clone, Copy, Debug, PartialEq, Eq)]
+pub struct Part {
+    pub number: usize,
+    pub place: usize,
+    /// 0: there is one slice only.
+    pub which: usize,
+    pub start: usize,
+    pub length: usize,
+}
+
 extern "C" {
     fn ddoc_read_symbol(codewords: *const u8, count: usize, text: *mut u8, room: usize) -> Answer;
     fn ddoc_write_symbol(
@@ -83,6 +95,9 @@ extern "C" {
         room: usize,
     ) -> Answer;
     fn ddoc_conformity(type0: u8, type1: u8, fields: *const Field, count: usize) -> Answer;
+    fn ddoc_day_add(file: *mut u8, room: usize, length: usize, text: *const u8, text_length: usize) -> Answer;
+    fn ddoc_day_withdraw(file: *mut u8, room: usize, length: usize, number: usize) -> Answer;
+    fn ddoc_day_fetch(file: *const u8, room: usize, length: usize, number: usize) -> Part;
 }
 
 // Slices cannot overlap where one of them is written to, and the library keeps no pointer.
@@ -130,4 +145,20 @@ pub fn write_text(header: Header, fields: &[Field], data: &[u8], signature: &[u8
 /// Whether the fields are those that the type asks for and permits.
 pub fn conformity(document_type: [u8; 2], fields: &[Field]) -> Answer {
     unsafe { ddoc_conformity(document_type[0], document_type[1], fields.as_ptr(), fields.len()) }
+}
+
+/// Adds a live record to the day file whose first `length` bytes stand in `file`, which needs 32,768 bytes or more (else refusal 6).
+/// Accepted: `length` is the file's now, `used` the record's number, and nothing behind the file is changed. Refused: all is untouched.
+pub fn day_add(file: &mut [u8], length: usize, text: &[u8]) -> Answer {
+    unsafe { ddoc_day_add(file.as_mut_ptr(), file.len(), length, text.as_ptr(), text.len()) }
+}
+
+/// Withdraws the record of that number. Accepted: `length` is the file's, as it was. Refused: all is untouched.
+pub fn day_withdraw(file: &mut [u8], length: usize, number: usize) -> Answer {
+    unsafe { ddoc_day_withdraw(file.as_mut_ptr(), file.len(), length, number) }
+}
+
+/// The text of the record of that number, as a part of `file`.
+pub fn day_fetch(file: &[u8], length: usize, number: usize) -> Part {
+    unsafe { ddoc_day_fetch(file.as_ptr(), file.len(), length, number) }
 }

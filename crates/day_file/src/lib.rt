@@ -10,7 +10,7 @@ ghost use Rattle.day_file.specs.Answers.{openedAnswer, addedAnswer, with
 ghost use Rattle.day_file.specs.Pieces.{putAt};
 ghost use Rattle.refusal.specs.Over.{over};
 
-// "A file of at most 32,768 bytes"
+// A file has at most 32,768 bytes.
 pub const MOST_BYTES: usize = 32768;
 
 // A file that is good, with its record count and its trailer's start; or a refusal.
@@ -174,7 +174,7 @@ fn not_added(number: u8) -> Added
     })
 }
 
-// "Adding a scan puts the record where the trailer stood and writes a new trailer behind it."
+// The new record stands where the trailer stood, and the new trailer behind it.
 pub fn add(file: &mut [u8], len: usize, text: &[u8]) -> Added
     ensures answer { λ r. ⌜ r ≡ addedAnswer (adding (now (file .entry)) len (now (text .entry))) ⌝ }
     ensures lent { λ r. ⌜ now (file .exit) ≡ sliceAfter (adding (now (file .entry)) len (now (text .entry))) (now (file .entry)) ⌝ }
@@ -245,20 +245,20 @@ pub fn place(file: &[u8], len: usize, number: usize) -> Placed
             if count <= number {
                 return nowhere(refusal::NO_SCAN);
             }
-            let at = four_at(file, t + 4 * number);
-            if file[at] != 1 {
+            let start = four_at(file, t + 4 * number);
+            if file[start] != 1 {
                 return nowhere(refusal::NO_SCAN);
             }
-            let n = two_at(file, at + 1);
+            let n = two_at(file, start + 1);
             if refusal::LIMIT < n {
                 return nowhere(refusal::TEXT_TOO_LONG);
             }
-            Placed::At(at + 3, n)
+            Placed::At(start + 3, n)
         }
     }
 }
 
-// "a fetch gives the text as a part of the slice, empty if refused"
+// The text of a number, as a part of the slice; empty if refused.
 pub fn fetch(file: &[u8], len: usize, number: usize) -> &[u8]
     ensures { λ r. ⌜ now r ≡ textOf (fetching (now (file .entry)) len number) ⌝ }
 {

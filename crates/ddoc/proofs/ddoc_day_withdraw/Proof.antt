@@ -22,8 +22,7 @@ same-length c = search needs
 
 returns : tie.Need-returns
 returns c =
-    let called = c .before .before .before .before in
-    (
+    let called = c .before .before .before .before in (
       ap (withdrawnNumbers (called .before .before .before .args .len)) (sym (c .enum-told .given .1) ∙ called .withdraw .ensures .0),
       called .withdraw .ensures .1,
     )
@@ -34,8 +33,7 @@ same-length-2 c = search needs
 returns-2 : tie.Need-returns-2
 returns-2 c =
     let told = c .before .before in
-    let called = told .before .before .before .before in
-    (
+    let called = told .before .before .before .before in (
       ap (withdrawnNumbers (called .before .before .before .args .len)) (sym (told .answer .given .1) ∙ called .withdraw .ensures .0),
       called .withdraw .ensures .1,
     )
