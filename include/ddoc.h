@@ -64,6 +64,7 @@ typedef struct {
 } ddoc_part;
 
 /* Reads `count` codewords into the lent `text`, which has `room` bytes. Less than 1,000 is refused with 6.
+ * Behind a text that was read without refusal every pad must be what the padding rule gives; 39 has the place of the first wrong one.
  * Accepted: the first `length` bytes are the text, with no zero byte behind it; the others are untouched.
  * Refused: every byte is untouched. The codewords and the text must not overlap. */
 ddoc_answer ddoc_read_symbol(const uint8_t *codewords, size_t count, uint8_t *text, size_t room);

@@ -79,6 +79,7 @@ static const char *words(size_t number) {
     case 4: return "value unused in its set, or shift 2 or 3 unfinished";
     case 5: return "more than 1,000 characters";
     case 6: return "a lent slice too short";
+    case 39: return "the pad is not what the padding rule gives";
     default: return "no refusal of symbol reading";
     }
 }

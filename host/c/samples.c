@@ -28,6 +28,8 @@ static const sample samples[] = {
     {"four codewords: refused 1", 4, {66, 67, 68, 129}, LENT, {1, 0, 0, 0}, ""},
     /* "Symbols written" */
     {"129 175 70 is empty", 3, {129, 175, 70}, LENT, {0, 0, 0, 0}, ""},
+    {"129 175 71: the second later pad is wrong, refused 39", 3, {129, 175, 71}, LENT, {39, 2, 0, 0}, ""},
+    {"0 129 0: refused 2 before the pad is looked at", 3, {0, 129, 0}, LENT, {2, 0, 0, 0}, ""},
     {"142 164 186 is 123456", 3, {142, 164, 186}, LENT, {0, 0, 6, 3}, "123456"},
     {"230 89 233 is ABC", 3, {230, 89, 233}, LENT, {0, 0, 3, 3}, "ABC"},
     {"66 67 129 is AB", 3, {66, 67, 129}, LENT, {0, 0, 2, 2}, "AB"},

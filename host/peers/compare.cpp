@@ -68,7 +68,7 @@ size_t c40_kinds(const Codewords &words, size_t i, Kinds &k)
     return i;
 }
 
-// By walking the modes, as 230 and 254 may also be halves of pairs, or rubbish behind the pad.
+// By walking the modes, as 230 and 254 may also be halves of pairs, or pads.
 Kinds kinds_of(const Codewords &words)
 {
     Kinds k;
@@ -137,12 +137,7 @@ class Walk {
             }
         }
     }
-    void end()
-    {
-        if (one_in(2)) return pad(words, capacity);
-        add(129);
-        while (left()) add(below(256));
-    }
+    void end() { pad(words, capacity); }
 
 public:
     Walk(std::mt19937_64 &r, size_t n) : random(r), capacity(n), most(1 + below(one_in(2) ? n * 2 : 1000)), shifts(one_in(2))

@@ -1,7 +1,7 @@
 // The sizes that the library chooses beside those of four independent encoders, on texts like those of
 // 2D-DOC and on as many mixed ones (200 each, or as many as the argument says), as a table in Markdown.
 // Of the symbols that the library reads as the text none may be smaller than its own; symbols in other
-// modes it doesn't read.
+// modes it doesn't read, but none may be refused for its padding.
 #include "../../include/ddoc.h"
 #include "encoders.hpp"
 #include "texts.hpp"
@@ -22,30 +22,35 @@ size_t own_size(const std::string &text)
     return ddoc_write_symbol(reinterpret_cast<const uint8_t *>(text.data()), text.size(), DDOC_LARGEST, work, DDOC_WORK, symbol, sizeof symbol).length;
 }
 
-bool reads_as(const Codewords &words, const std::string &text)
+enum { wrong_pad = 39 };
+
+// The refusal's number, 0 if the symbol reads as the text, and -1 if it reads as another.
+int read_as(const Codewords &words, const std::string &text)
 {
     uint8_t room[1000];
     ddoc_answer a = ddoc_read_symbol(words.data(), words.size(), room, sizeof room);
-    return a.number == 0 && std::string(reinterpret_cast<char *>(room), a.length) == text;
+    if (a.number) return int(a.number);
+    return std::string(reinterpret_cast<char *>(room), a.length) == text ? 0 : -1;
 }
 
 struct Row {
-    int made = 0, read = 0;          // symbols, and those that the library reads as the text
+    int made = 0, read = 0, pads = 0;  // symbols, those that the library reads as the text, and those with padding that it refuses
     int smaller = 0, larger = 0;     // ours, beside those read
     int smaller_all = 0, larger_all = 0;
     size_t words = 0;
     void add(const Codewords &peer, const std::string &text, size_t own)
     {
         if (peer.empty()) return;
-        const bool is_read = reads_as(peer, text);
-        made++, read += is_read;
+        const int answer = read_as(peer, text);
+        const bool is_read = answer == 0;
+        made++, read += is_read, pads += answer == wrong_pad;
         words += peer.size();
         smaller_all += own < peer.size(), larger_all += own > peer.size();
         if (is_read) smaller += own < peer.size(), larger += own > peer.size();
     }
 };
 
-// Answers whether no symbol of ours is refused, or larger than one that is read.
+// Answers whether no symbol of ours is refused, or larger than one that is read, and no symbol is refused for its padding.
 bool table(const char *name, const std::vector<std::string> &texts)
 {
     std::vector<size_t> own;
@@ -66,7 +71,7 @@ bool table(const char *name, const std::vector<std::string> &texts)
         printf("| %s | %s | %d | %.1f | %d | %d | %d | %d | %d |\n", encoders[e]->name, restricted[e], r.made, r.made ? double(r.words) / r.made : 0,
                r.smaller_all, r.larger_all, r.read, r.smaller, r.larger);
         fflush(stdout);
-        good = good && r.made && r.larger == 0;
+        good = good && r.made && r.larger == 0 && r.pads == 0;
     }
     return good;
 }

@@ -18,7 +18,7 @@ FILE_ROOM = 32768
 
 
 class Answer(ctypes.Structure):
-    """What comes back: number 0 is acceptance, any other a refusal of document 01."""
+    """What comes back: number 0 is acceptance, any other a refusal of document 01 or 02."""
 
     _fields_ = [(name, c_size_t) for name in ("number", "place", "length", "used")]
 
@@ -58,7 +58,7 @@ class Part(ctypes.Structure):
 
 
 class Refused(Exception):
-    """A refusal of document 01: its number and its place."""
+    """A refusal of document 01 or 02: its number and its place."""
 
     def __init__(self, number, place):
         super().__init__(f"refused {number} at {place}")

@@ -1,6 +1,6 @@
 """Runs the published examples through the library: `published.py [FILE]`, by default host/data/published.json. Each is one test.
 
-An example's text is read as its "base" says, and what is accepted is written again as the same text. Where
+An example's text is read as its "base" says, and what is accepted is written again as the same text; its symbol is read as the text. Where
 "signature_verified" says so, OpenSSL verifies the signature over exactly the signed part, with the document's own test
 certificate: one byte more or less must not verify. A refused text has no signed part: there it is split at the mark 31.
 """
@@ -98,6 +98,9 @@ def faults(example, openssl):
         signed, _, letters = text.partition(b"\x1f")
         length = len(signed)
         signature = base64.b32decode(letters + b"=" * (-len(letters) % 8)) if letters else b""
+    symbol, _ = ddoc.write_symbol(text)
+    if ddoc.read_symbol(symbol)[0] != text:
+        found.append("its symbol is read as another text")
     if example["signature_verified"]:
         if not openssl.verifies(text[:length], signature):
             found.append("the signature does not verify over the signed part")

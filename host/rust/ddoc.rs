@@ -5,7 +5,7 @@
 // A program need not call everything.
 #![allow(dead_code)]
 
-/// What comes back. Number 0: accepted. Any other number is a refusal of document 01.
+/// What comes back. Number 0: accepted. Any other number is a refusal of document 01 or 02.
 #[repr(C)]
 #[derive(Clone, Copy, Debug, PartialEq, Eq)]
 pub struct Answer {
@@ -102,7 +102,7 @@ extern "C" {
 
 // Slices cannot overlap where one of them is written to, and the library keeps no pointer.
 
-/// Reads the codewords into the lent text, which needs 1,000 bytes or more (else refusal 6).
+/// Reads the codewords into the lent text, which needs 1,000 bytes or more (else refusal 6). Each pad is looked at (39).
 /// Accepted: the first `length` bytes are the text, the others untouched. Refused: all are untouched.
 pub fn read_symbol(codewords: &[u8], text: &mut [u8]) -> Answer {
     unsafe { ddoc_read_symbol(codewords.as_ptr(), codewords.len(), text.as_mut_ptr(), text.len()) }

@@ -1,7 +1,7 @@
 //! The lists of codewords that the comparison runs over: walks made of permitted moves, damaged walks,
 //! texts around the limit of 1,000 characters, and noise. Everything follows from the generator's seed.
 
-use crate::paper::CAPACITIES;
+use crate::paper::{pad, read_symbol, CAPACITIES, LEAST_ROOM};
 
 /// SplitMix64: small, and any seed will do.
 pub struct Dice(pub u64);
@@ -112,10 +112,7 @@ pub fn walk(dice: &mut Dice, capacity: usize) -> Vec<u8> {
     let mut list = Vec::with_capacity(capacity + 2);
     while list.len() < capacity {
         if list.len() >= taste.stop {
-            list.push(PAD);
-            while list.len() < capacity {
-                list.push(dice.byte());
-            }
+            pad_mostly_right(dice, &mut list, capacity);
         } else if dice.one_in(taste.latch) {
             list.push(LATCH);
             c40_part(dice, &taste, capacity, &mut list);
@@ -166,6 +163,26 @@ fn c40_part(dice: &mut Dice, taste: &Taste, capacity: usize, list: &mut Vec<u8>)
     }
 }
 
+/// Fills up to the capacity by the padding rule; one time in four with rubbish behind the 129.
+fn pad_mostly_right(dice: &mut Dice, list: &mut Vec<u8>, capacity: usize) {
+    let used = list.len();
+    pad(list, capacity);
+    if used < capacity && dice.one_in(4) {
+        dice.fill(&mut list[used + 1..]);
+    }
+}
+
+/// A list that is accepted and has `pads` pads or more, and its count of codewords before them.
+pub fn padded_walk(dice: &mut Dice, capacity: usize, pads: usize) -> (Vec<u8>, usize) {
+    loop {
+        let list = walk(dice, capacity);
+        match read_symbol(&list, LEAST_ROOM) {
+            Ok(reading) if reading.used + pads <= capacity => return (list, reading.used),
+            _ => {}
+        }
+    }
+}
+
 /// The lone last codeword in C40 mode, mostly a permitted one.
 fn lone(dice: &mut Dice) -> u8 {
     match dice.below(8) {
@@ -198,9 +215,13 @@ pub fn lose(dice: &mut Dice, list: &mut Vec<u8>, count: usize) {
         }
         _ => {
             let higher = CAPACITIES.iter().find(|&&capacity| capacity >= length);
-            let rubbish = dice.one_in(2);
-            while list.len() < *higher.unwrap_or(&length) {
-                list.push(if rubbish { dice.byte() } else { PAD });
+            let filling = dice.below(3);
+            let higher = *higher.unwrap_or(&length);
+            if filling == 0 {
+                pad(list, higher);
+            }
+            while list.len() < higher {
+                list.push(if filling == 1 { dice.byte() } else { PAD });
             }
         }
     }
@@ -286,12 +307,7 @@ pub fn near_limit(dice: &mut Dice, characters: usize, kind: usize) -> Vec<u8> {
     let count = if full { most } else { dice.between(before / 2 + 8, most) };
     let mut list = start_of(dice, count, before);
     list.extend(end.codewords);
-    if list.len() < capacity {
-        list.push(PAD);
-    }
-    while list.len() < capacity {
-        list.push(dice.byte());
-    }
+    pad_mostly_right(dice, &mut list, capacity);
     list
 }
 

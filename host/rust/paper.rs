@@ -1,4 +1,4 @@
-//! Reading a symbol, written from document 01 alone and made to be read beside it, not to be fast.
+//! Reading a symbol, written from documents 01 and 02 alone and made to be read beside them, not to be fast.
 //! The tests hold the library against it. Each rule is quoted where it is applied.
 
 /// "The 24 square sizes hold, in data codewords"
@@ -18,6 +18,7 @@ const PAIR_OUTSIDE: usize = 3;
 const VALUE_OR_SHIFT: usize = 4;
 const TOO_LONG: usize = 5;
 const ROOM_TOO_SHORT: usize = 6;
+pub const WRONG_PAD: usize = 39;
 
 #[derive(Debug, PartialEq, Eq)]
 pub struct Reading {
@@ -56,7 +57,7 @@ pub struct Reader<'a> {
     pub text: Vec<u8>,
 }
 
-/// "Order, symbol reading: 1, 6, then left to right"
+/// "Order, symbol reading: 1, 6, then left to right"; 39 "after the whole text has been read without refusal"
 pub fn read_symbol(codewords: &[u8], room: usize) -> Result<Reading, Refusal> {
     if !CAPACITIES.contains(&codewords.len()) {
         return refuse(NO_CAPACITY, 0);
@@ -68,8 +69,34 @@ pub fn read_symbol(codewords: &[u8], room: usize) -> Result<Reading, Refusal> {
     let mut reader = Reader { codewords, place: 0, mode: Mode::Ascii, set: Set::Basic, text: Vec::new() };
     loop {
         if let Some(used) = reader.step()? {
+            look_at_pads(codewords, used)?;
             return Ok(Reading { text: reader.text, used });
         }
+    }
+}
+
+/// "every pad must be what the padding rule gives": the codewords before the first pad are padded anew, and nothing may differ.
+fn look_at_pads(codewords: &[u8], used: usize) -> Result<(), Refusal> {
+    let mut right = codewords[..used].to_vec();
+    pad(&mut right, codewords.len());
+    match right.iter().zip(codewords).position(|(right, codeword)| right != codeword) {
+        Some(place) => refuse(WRONG_PAD, place),
+        None => Ok(()),
+    }
+}
+
+/// "Padding starts with 129. A later pad at place p (the first codeword is place 1) is 129 + ((149p mod 253) + 1), less 254
+/// if above 254."
+pub fn pad(symbol: &mut Vec<u8>, capacity: usize) {
+    let used = symbol.len();
+    for p in used + 1..=capacity {
+        let later = 129 + ((149 * p) % 253 + 1);
+        let pad = match later {
+            _ if p == used + 1 => 129,
+            255.. => later - 254,
+            _ => later,
+        };
+        symbol.push(pad as u8);
     }
 }
 
@@ -97,7 +124,7 @@ impl Reader<'_> {
         match codeword {
             // "1 to 128 is character codeword minus 1"
             1..=128 => self.push(codeword - 1, place)?,
-            // "129 ends the text and the codewords after it are not looked at"
+            // "129 ends the text"; document 02 looks at the codewords after it, once the text has been read
             129 => return Ok(Some(place)),
             // "130 to 229 is two digits, codeword minus 130"
             130..=229 => {

@@ -2,7 +2,7 @@
 //! text and every state of the reader there it holds the set of all numbers of codewords that can still follow; what is
 //! smallest, fewest and largest is read off these sets. Below it is a search through all lists, for very small sizes.
 
-use crate::paper::{Mode, Reader, Refusal, Set, CAPACITIES, LONGEST_TEXT};
+use crate::paper::{pad, Mode, Reader, Refusal, Set, CAPACITIES, LONGEST_TEXT};
 use std::collections::{HashMap, HashSet};
 
 /// "The symbol writer is lent a work slice of at least 8,192 sixteen-bit numbers"
@@ -109,21 +109,6 @@ fn text_refusal(text: &[u8]) -> Option<Refusal> {
     }
     let place = text.iter().position(|&character| character > 127)?;
     Some(Refusal { number: ABOVE_127, place })
-}
-
-/// "Padding starts with 129. A later pad at place p (the first codeword is place 1) is 129 + ((149p mod 253) + 1), less 254
-/// if above 254."
-fn pad(symbol: &mut Vec<u8>, capacity: usize) {
-    let used = symbol.len();
-    for p in used + 1..=capacity {
-        let later = 129 + ((149 * p) % 253 + 1);
-        let pad = match later {
-            _ if p == used + 1 => 129,
-            255.. => later - 254,
-            _ => later,
-        };
-        symbol.push(pad as u8);
-    }
 }
 
 // ---- the reader's moves, as far as they go along the text

@@ -14,15 +14,22 @@ const USUAL_SEED: u64 = 20_240_816;
 const GUARD: usize = 64;
 /// Differences printed for a group; the others are only counted.
 const SHOWN: usize = 3;
-/// Each refusal has to be met this often, and accepted lists have to be this part of all.
+/// The refusals of reading. Each has to be met this often, and accepted lists have to be this part of all.
+const REFUSALS: [usize; 7] = [1, 2, 3, 4, 5, 6, paper::WRONG_PAD];
 const LEAST_REFUSED: usize = 1000;
 const LEAST_ACCEPTED_PERCENT: usize = 10;
 
 /// Lists compared: how many were answered with each number (0: accepted), and how many differed.
-#[derive(Clone, Default)]
+#[derive(Clone)]
 struct Tally {
-    answers: [usize; 7],
+    answers: [usize; paper::WRONG_PAD + 1],
     differences: usize,
+}
+
+impl Default for Tally {
+    fn default() -> Tally {
+        Tally { answers: [0; paper::WRONG_PAD + 1], differences: 0 }
+    }
 }
 
 impl run::Tally for Tally {
@@ -42,7 +49,7 @@ impl run::Tally for Tally {
     }
 
     fn told(&self) -> String {
-        format!("{} lists, {} accepted, refused {}", self.cases(), self.answers[0], run::counts(1..7, &self.answers))
+        format!("{} lists, {} accepted, refused {}", self.cases(), self.answers[0], run::counts(REFUSALS.into_iter(), &self.answers))
     }
 }
 
@@ -122,7 +129,7 @@ impl Bench {
 /// The lists must have reached every answer, or the comparison says little.
 fn coverage(run: &mut Run<Bench>) {
     let all = run.all.clone();
-    let often = all.answers[1..].iter().all(|&count| count >= LEAST_REFUSED);
+    let often = REFUSALS.iter().all(|&number| all.answers[number] >= LEAST_REFUSED);
     let accepted = 100 * all.answers[0] >= LEAST_ACCEPTED_PERCENT * all.cases();
     run.report(often && accepted, "every answer occurs often", &all);
 }
@@ -187,6 +194,52 @@ fn walks(run: &mut Run<Bench>) {
             let capacity = if dice.one_in(4) { 86 } else { dice.one_of(&paper::CAPACITIES[10..]) };
             let mut list = lists::walk(dice, capacity);
             lists::lose(dice, &mut list, 64);
+            bench.compare(dice, &list, 1000);
+        }
+    });
+}
+
+/// Document 02: "A packet lost behind the text left rubbish padding".
+fn wrong_pads(run: &mut Run<Bench>) {
+    run.group("each pad damaged in turn", |dice, bench| {
+        for capacity in paper::CAPACITIES {
+            for _ in 0..20 {
+                let (mut list, used) = lists::padded_walk(dice, capacity, 1);
+                for place in used..capacity {
+                    let right = list[place];
+                    list[place] = right ^ dice.between(1, 255) as u8;
+                    bench.compare(dice, &list, 1000);
+                    list[place] = right;
+                }
+            }
+        }
+    });
+    run.group("two pads damaged, or pads swapped", |dice, bench| {
+        for _ in 0..20_000 {
+            let capacity = dice.one_of(&paper::CAPACITIES[1..]);
+            let (mut list, used) = lists::padded_walk(dice, capacity, 2);
+            let (one, other) = (dice.between(used, capacity - 1), dice.between(used, capacity - 1));
+            list.swap(one, other);
+            if dice.one_in(2) {
+                list[one] = dice.byte();
+            }
+            bench.compare(dice, &list, 1000);
+        }
+    });
+    run.group("a packet of 64 lost behind the text", |dice, bench| {
+        for turn in 0..20_000 {
+            let capacity = dice.one_of(&paper::CAPACITIES[10..]);
+            let (mut list, used) = lists::padded_walk(dice, capacity, 65);
+            let start = dice.between(used + 1, capacity - 64);
+            match turn % 3 {
+                0 => list[start..start + 64].fill(0),
+                1 => dice.fill(&mut list[start..start + 64]),
+                _ => {
+                    // The rest moves up, and the end is filled up by the rule as if it were the text's.
+                    list.drain(start..start + 64);
+                    paper::pad(&mut list, capacity);
+                }
+            }
             bench.compare(dice, &list, 1000);
         }
     });
@@ -265,6 +318,7 @@ fn main() {
     let mut run = Run::new(run::given_seed("reading", USUAL_SEED), Bench::new);
     random_lists(&mut run);
     walks(&mut run);
+    wrong_pads(&mut run);
     limits(&mut run);
     corners(&mut run);
     rooms(&mut run);

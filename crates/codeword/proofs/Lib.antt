@@ -2,3 +2,4 @@
 pub mod Sizes
 pub mod Characters
 pub mod Ranges
+pub mod Pads

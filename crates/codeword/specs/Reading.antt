@@ -2,11 +2,11 @@
 use Prim.Native.Nat.{ℕ, zero, suc}
 use mathlib.Core.Bool.{Bool, true, false}
 use mathlib.Core.List.{List, [], _∷_}
-use lib.Dec.{leb, eqb}
+use lib.Dec.{ltb, leb, eqb}
 use lib.ListN.{length}
 use Rattle.refusal.specs.Limits.{limit}
 use Rattle.refusal.specs.Pick.{pick}
-use Rattle.refusal.specs.Numbers.{count-no-capacity, forbidden-codeword, pair-outside, wrong-value, text-too-long, lent-too-short}
+use Rattle.refusal.specs.Numbers.{count-no-capacity, forbidden-codeword, pair-outside, wrong-value, text-too-long, lent-too-short, wrong-pad}
 use Rattle.codeword.specs.declared.Set.{Set}
 use Rattle.codeword.specs.declared.Set.the-variants.{Basic}
 use Rattle.codeword.specs.declared.Value.{Value}
@@ -19,6 +19,7 @@ use Rattle.codeword.specs.declared.Pair.{Pair}
 use Rattle.codeword.specs.declared.Pair.the-variants.{Three, Outside}
 use Rattle.codeword.specs.Meanings.{ascii, lone, pair, value, unfinished}
 use Rattle.codeword.specs.Sizes.{isCapacity}
+use Rattle.codeword.specs.Pads.{firstWrong}
 
 -- What reading gives from a codeword on: the text, how many codewords stand before the first pad, and whether there is a pad;
 -- or the number of a refusal, and how many codewords further on its place is.
@@ -100,9 +101,18 @@ read (a ∷ []) (inC40 s) = finish s (onLone (lone a))
 read (a ∷ b ∷ ws) (inC40 s) =
     pick (eqb a 254) (finish s (behind (read (b ∷ ws) inAscii))) (onPair (pair a b) s (λ s′. read ws (inC40 s′)))
 
--- WHAT A SYMBOL SAYS, where the lent text has so many bytes. Order: 1, 6, then left to right.
-unfoldable pub readSymbol : (codewords : List ℕ) (lent : ℕ) → Reading
-readSymbol codewords lent =
+-- what the codewords up to the first pad say, where the lent text has so many bytes. Order: 1, 6, then left to right.
+unfoldable pub readToPad : (codewords : List ℕ) (lent : ℕ) → Reading
+readToPad codewords lent =
     pick (isCapacity (length codewords))
     (pick (leb limit lent) (read codewords inAscii limit) (refused lent-too-short 0))
     (refused count-no-capacity 0)
+
+-- after the whole text has been read without refusal, every pad must be what the padding rule gives
+abbrev pub checked : (codewords : List ℕ) → Reading → Reading
+checked ws (good t n b) = pick (ltb (firstWrong n ws) (length ws)) (refused wrong-pad (firstWrong n ws)) (good t n b)
+checked ws (refused k p) = refused k p
+
+-- WHAT A SYMBOL SAYS. Order: 1, 6, then left to right, then 39 at the first wrong pad.
+unfoldable pub readSymbol : (codewords : List ℕ) (lent : ℕ) → Reading
+readSymbol codewords lent = checked codewords (readToPad codewords lent)

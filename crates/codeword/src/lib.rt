@@ -4,8 +4,9 @@ ghost use Rattle.codeword.specs.Meanings.{ascii, lone, pair, value, unfi
 ghost use Rattle.codeword.specs.Sizes.{isCapacity, capacities, most-codewords};
 ghost use Rattle.codeword.specs.Characters.{setOf, numberOf};
 ghost use Rattle.codeword.specs.Numbered.{isBasic};
-ghost use Rattle.codeword.specs.Pads.{padAt};
-ghost use Prim.Native.Nat.{_<_};
+ghost use Rattle.codeword.specs.Pads.{padAt, firstWrong};
+ghost use Prim.Native.Nat.{_<_, _≤_};
+ghost use lib.ListN.{length};
 
 // The four sets of C40. Sets 1, 2 and 3 are also the shifts that wait for their value.
 pub enum Set {
@@ -278,4 +279,19 @@ pub fn pad_at(first: usize, i: usize) -> u8
         return (pad - 254) as u8;
     }
     pad as u8
+}
+
+// The index of the first wrong pad, where `used` codewords stand before the first; behind the last codeword if none is wrong.
+pub fn first_wrong_pad(codewords: &[u8], used: usize) -> usize
+    requires { ⌜ length (now codewords) ≤ most-codewords ⌝ }
+    ensures { λ r. ⌜ r ≡ firstWrong used (now (codewords .entry)) ⌝ }
+{
+    let mut i = used;
+    while i < codewords.len() {
+        if codewords[i] != pad_at(used, i) {
+            return i;
+        }
+        i += 1;
+    }
+    i
 }

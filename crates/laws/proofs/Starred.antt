@@ -12,9 +12,9 @@ use Rattle.refusal.specs.Numbers.{pair-outside, wrong-value, zone-ends-inside, 
 use Rattle.refusal.specs.Among.{among}
 use Rattle.codeword.specs.Meanings.{ascii, lone, pair, value, unfinished}
 use Rattle.codeword.specs.Sizes.{capacities}
-use Rattle.codeword.specs.Reading.{good, refused, read, readSymbol}
+use Rattle.codeword.specs.Reading.{good, refused, read, readToPad, readSymbol}
 use Rattle.codeword.specs.Characters.{setOf, numberOf}
-use Rattle.codeword.specs.Pads.{padAt}
+use Rattle.codeword.specs.Pads.{padAt, wrongFrom, firstWrong}
 use Rattle.codeword.specs.Best.{Best, NoneFits}
 use Rattle.optimum.specs.Cost.{digit, base, chars, pairs, before, cost}
 use Rattle.optimum.specs.Write as Write
@@ -67,7 +67,7 @@ pub record Starred : Type 0 where
       ∷ []
 
 pub starred : Starred
-unfolding choose capacities write move Write.pair next third numberOf odd cost base before chars pairs setOf digit padAt unfinished readSymbol read value ascii lone pair among zone find readData does allowed
+unfolding choose capacities write move Write.pair next third numberOf odd cost base before chars pairs setOf digit padAt unfinished readSymbol readToPad firstWrong wrongFrom read value ascii lone pair among zone find readData does allowed
 starred =
     record {
       empty = right [] tt (omega arith) 1558;

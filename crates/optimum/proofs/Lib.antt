@@ -6,13 +6,16 @@ pub mod Parity
 pub mod Accepted
 pub mod Room
 pub mod Counted
+pub mod Cut
 pub mod Lower
 pub mod Pairs
 pub mod Forced
 pub mod Attain
 pub mod Largest
+pub mod Padding
 pub mod Symbols
 pub mod Choice
 pub mod Top
 pub mod Unique
 pub mod Round
+pub mod Repad

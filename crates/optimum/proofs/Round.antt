@@ -22,7 +22,7 @@ symbol-read t ws lent S h = go (read-of t ws S)
         record {
           padded = R .b;
           is =
-              into t ws (R .n) (R .b) lent (R .size) h (out-of t ws (R .n) (R .b) (R .symbol) .1)
+              into t ws (R .n) (R .b) lent (R .size) h (out-of t ws (R .n) (R .b) (R .symbol) .2) (out-of t ws (R .n) (R .b) (R .symbol) .1)
               ∙ ap (λ n. good t n (R .b)) (sym (R .count));
         }
 

@@ -2,23 +2,23 @@
 -- symbol of the text shows that its capacity will do, and has at least as many codewords before its pads; the writer attains the
 -- bound with the largest codewords; the pads follow.
 -- Assumes nothing.
-use Prim.Native.Nat.{ℕ, zero, suc, _+_, _-_, _*_, _%_, _≤_, _<_}
+use Prim.Native.Nat.{ℕ, _+_, _-_, _≤_, _<_}
 use mathlib.Core.Bool.{Bool, true, false}
-use mathlib.Core.List.{List, [], _∷_, _++_}
+use mathlib.Core.List.{List, _++_}
 use mathlib.Core.Logic.{inl, inr}
 use mathlib.Core.Path.{_≡_, refl, ap, sym, subst, _∙_}
 use native.Mathlib.Omega.{arith}
-use lib.Dec.{ltb, leb, eqb}
+use lib.Dec.{ltb, leb}
 use lib.ListN.{length, take, getD, length-append}
 use lib.Seq.{take-at, getD-append-add}
-use borrow.Author.Tests.{ltb-true, ltb-false, leb-true, leb-false, eq-eqb}
-use Rattle.refusal.specs.Pick.{pick}
+use borrow.Author.Tests.{ltb-true, ltb-false, leb-true, leb-false}
 use Rattle.refusal.specs.Limits.{limit}
 use Rattle.codeword.specs.Sizes.{capacities}
 use Rattle.codeword.specs.Reading.{good, inAscii, read, readSymbol}
 use Rattle.codeword.specs.Pads.{padAt}
 use Rattle.codeword.specs.Best.{textOf, isGood, used, Symbol, _≼_, Best, NoneFits}
 use Rattle.codeword.proofs.Sizes.{capacity-most}
+use Rattle.codeword.proofs.Pads.{all-right}
 use Rattle.optimum.specs.Cost.{asc, cost}
 use Rattle.optimum.specs.Write.{odd, write, fewest, Choice, at, nothing, choose, padding, symbolOf}
 use Rattle.optimum.proofs.Values.{Chars, Bytes}
@@ -28,6 +28,7 @@ use Rattle.optimum.proofs.Room.{roomy}
 use Rattle.optimum.proofs.Counted.{Len, counted}
 use Rattle.optimum.proofs.Attain.{Rest, Written, attain}
 use Rattle.optimum.proofs.Largest.{largest}
+use Rattle.optimum.proofs.Padding.{bytes-of, length-padding, pad-at, pads-follow, pad-bytes, append-bytes}
 use Rattle.optimum.proofs.Symbols.{into, used-is, Read, read-of}
 use Rattle.optimum.proofs.Choice.{Feasible, Kind, Chosen, Found, chosen}
 
@@ -40,50 +41,6 @@ does : (t ws : List ℕ) (n : ℕ) (b : Bool) → read ws inAscii (length t) ≡
 does t ws n true e =
     inl (omega (arith, fewest-least t n (odd n) (lower ws inAscii t n true e), counted ws inAscii (length t) t n true e))
 does t ws n false e = inr (rw (← (counted ws inAscii (length t) t n false e)) (lower ws inAscii t n false e))
-
-bytes-of : (ws : List ℕ) → ((i : ℕ) → getD ws i 0 < 256) → Bytes ws
-bytes-of [] h = tt
-bytes-of (w ∷ ws) h = (h 0, bytes-of ws (λ i. h (suc i)))
-
--- THE PADS
-length-padding : (n i k : ℕ) → length (padding n i k) ≡ k
-length-padding n i zero = refl
-length-padding n i (suc k) = ap suc (length-padding n (suc i) k)
-
-pad-at : (n i k j : ℕ) → j < k → getD (padding n i k) j 0 ≡ padAt n (i + j)
-pad-at n i zero j h = absurd (omega arith)
-pad-at n i (suc k) zero h = let e : i + 0 ≡ i = omega arith in rw e
-pad-at n i (suc k) (suc j) h = let e : i + suc j ≡ suc i + j = omega arith in rw e (pad-at n (suc i) k j (omega arith))
-
-first-pad : (n : ℕ) → padAt n n ≡ 129
-unfolding padAt
-first-pad n = rw (eq-eqb n n refl)
-
-pads-follow : (n k : ℕ) → 0 < k → Rest true (padding n n k)
-pads-follow n zero h = absurd (omega arith)
-pads-follow n (suc k) h = first-pad n
-
-pad-byte : (n i : ℕ) → padAt n i < 256
-unfolding padAt
-pad-byte n i = go (eqb i n) (ltb 254 (129 + (149 * suc i % 253 + 1))) refl
-  where
-    go :
-        (x y : Bool) → ltb 254 (129 + (149 * suc i % 253 + 1)) ≡ y →
-        pick x 129 (pick y (129 + (149 * suc i % 253 + 1) - 254) (129 + (149 * suc i % 253 + 1))) < 256
-    go true y e = omega arith
-    go false true e = omega arith
-    go false false e = omega (arith, ltb-false 254 (129 + (149 * suc i % 253 + 1)) e)
-
-pad-bytes : (n i k : ℕ) → Bytes (padding n i k)
-pad-bytes n i zero = tt
-pad-bytes n i (suc k) = (pad-byte n i, pad-bytes n (suc i) k)
-
-append-bytes : (vs ws : List ℕ) → Bytes vs → Bytes ws → (i : ℕ) → getD (vs ++ ws) i 0 < 256
-append-bytes [] [] h g i = omega arith
-append-bytes [] (w ∷ ws) h g zero = g .0
-append-bytes [] (w ∷ ws) h g (suc i) = append-bytes [] ws tt (g .1) i
-append-bytes (v ∷ vs) ws h g zero = h .0
-append-bytes (v ∷ vs) ws h g (suc i) = append-bytes vs ws (h .1) g i
 
 -- THE SYMBOL OF THE CHOSEN CAPACITY
 
@@ -141,9 +98,16 @@ module _ (t : List ℕ) (short : length t ≤ limit) (chars : Chars t) (max c n 
   length-ws : length ws ≡ c
   length-ws = omega (arith, length-append head (padding n n (c - n)), written .count, length-padding n n (c - n), n-low)
 
+  pads : (i : ℕ) → n ≤ i → i < c → getD ws i 0 ≡ padAt n i
+  pads i h g =
+      let e : length head + (i - n) ≡ i = omega (arith, written .count) in
+      let f : n + (i - n) ≡ i = omega arith in
+      sym (ap (λ j. getD ws j 0) e) ∙ getD-append-add head (padding n n (c - n)) (i - n) 0 ∙ pad-at n n (c - n) (i - n) (omega arith)
+      ∙ ap (padAt n) f
+
   reads : readSymbol ws limit ≡ good t n b
   reads =
-      into t ws n b limit (rw length-ws (G .listed)) (omega arith)
+      into t ws n b limit (rw length-ws (G .listed)) (omega arith) (all-right n ws (λ i h g. pads i h (omega (arith, length-ws))))
       (roomy ws inAscii (length t) t n b (written .reads (padding n n (c - n)) (follows t c n small b (G .kind))) .1 limit short)
 
   used-ws : used ws ≡ n
@@ -160,13 +124,6 @@ module _ (t : List ℕ) (short : length t ≤ limit) (chars : Chars t) (max c n 
       let r : R .b ≡ b = beside vs R l .1 q in
       rw (take-at head (padding n n (c - n)) n (written .count))
       (largest b n inAscii t (omega (arith, small, n-low)) chars vs bs (R .is ∙ ap (λ k. good t k (R .b)) q ∙ ap (λ x. good t n x) r))
-
-  pads : (i : ℕ) → n ≤ i → i < c → getD ws i 0 ≡ padAt n i
-  pads i h g =
-      let e : length head + (i - n) ≡ i = omega (arith, written .count) in
-      let f : n + (i - n) ≡ i = omega arith in
-      sym (ap (λ j. getD ws j 0) e) ∙ getD-append-add head (padding n n (c - n)) (i - n) 0 ∙ pad-at n n (c - n) (i - n) (omega arith)
-      ∙ ap (padAt n) f
 
   best : Best t max ws
   best =

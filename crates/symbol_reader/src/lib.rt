@@ -247,7 +247,8 @@ fn read_c40(codewords: &[u8], place: usize, text: &mut [u8], n: usize, set: Set)
     }
 }
 
-// Reads a symbol into the lent text. The text is read into a buffer first, so that a refusal leaves what was lent as it was.
+// Reads a symbol into the lent text. The text is read into a buffer first, so that a refusal, also of a pad behind it, leaves what was
+// lent as it was.
 pub fn read_symbol(codewords: &[u8], text: &mut [u8]) -> SymbolRead
     ensures answer { λ r. ⌜ r ≡ answered (readSymbol (now (codewords .entry)) (length (now (text .entry)))) ⌝ }
     ensures lent { λ r. ⌜ now (text .exit) ≡ lentAfter (readSymbol (now (codewords .entry)) (length (now (text .entry)))) (now (text .entry)) ⌝ }
@@ -266,9 +267,16 @@ pub fn read_symbol(codewords: &[u8], text: &mut [u8]) -> SymbolRead
     }
     let mut buffer = [0u8; refusal::LIMIT];
     let answer = read_ascii(codewords, 0, &mut buffer, 0);
-    let SymbolRead::Text(n, _) = answer else {
+    let SymbolRead::Text(n, used) = answer else {
         return answer;
     };
+    let wrong = codeword::first_wrong_pad(codewords, used);
+    if wrong < codewords.len() {
+        return SymbolRead::Refused(Refusal {
+            number: refusal::WRONG_PAD,
+            place: wrong,
+        });
+    }
     bytes::copy(&buffer[..n], text);
     answer
 }
