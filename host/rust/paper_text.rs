@@ -66,6 +66,11 @@ fn header_length(version: [u8; 2]) -> Option<usize> {
 
 /// "Text reading: 5 (place 1,000), 6, 10 .., header left to right, 15 .., then fields left to right: .. Then signature"
 pub fn read_text(text: &[u8], room: usize) -> Result<Message, Refusal> {
+    read_text_by(&ROWS, text, room)
+}
+
+/// The same by any rows, wherever they stand.
+pub fn read_text_by(rows: &[Row], text: &[u8], room: usize) -> Result<Message, Refusal> {
     if text.len() > LONGEST_TEXT {
         return refuse(TOO_LONG, LONGEST_TEXT);
     }
@@ -79,7 +84,7 @@ pub fn read_text(text: &[u8], room: usize) -> Result<Message, Refusal> {
         Some(at) => zone_start + at,
         None => return refuse(NO_MARK, text.len()),
     };
-    let fields = read_fields(&text[..zone_end], zone_start)?;
+    let fields = read_fields(rows, &text[..zone_end], zone_start)?;
     let signature = read_signature(&header, text, zone_end + 1)?;
     Ok(Message { header, fields, signature, signed_length: zone_end })
 }
@@ -151,14 +156,14 @@ fn day(digits: &[u8]) -> u16 {
 
 /// "then fields left to right: 17 for half an identifier, 16, 20, 27, the data left to right .., 19. The place is the
 /// identifier's"
-fn read_fields(text: &[u8], zone_start: usize) -> Result<Vec<Field>, Refusal> {
+fn read_fields(rows: &[Row], text: &[u8], zone_start: usize) -> Result<Vec<Field>, Refusal> {
     let mut fields: Vec<Field> = Vec::new();
     let mut place = zone_start;
     while place < text.len() {
         if place + 1 == text.len() {
             return refuse(ZONE_ENDS, place);
         }
-        let row = match row_of(&text[place..place + 2]) {
+        let row = match rows.iter().position(|row| row.identifier == text[place..place + 2]) {
             Some(row) => row,
             None => return refuse(UNKNOWN_IDENTIFIER, place),
         };
@@ -170,7 +175,7 @@ fn read_fields(text: &[u8], zone_start: usize) -> Result<Vec<Field>, Refusal> {
             return refuse(TOO_MANY_FIELDS, place);
         }
         let start = place + 2;
-        let data = read_data(&ROWS[row], text, start, place)?;
+        let data = read_data(&rows[row], text, start, place)?;
         fields.push(Field { row: row as u16, cut: data.cut, start: start as u32, length: data.length as u32 });
         place = data.behind;
     }

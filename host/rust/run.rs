@@ -74,6 +74,7 @@ pub fn given_seed(program: &str, usual: u64) -> u64 {
 }
 
 /// How often each of the numbers was given: `4: 120, 6: 3`.
+#[allow(dead_code)] // more_rows.rs counts what became of a reading
 pub fn counts(numbers: impl Iterator<Item = usize>, answers: &[usize]) -> String {
     numbers.map(|number| format!("{}: {}", number, answers[number])).collect::<Vec<String>>().join(", ")
 }

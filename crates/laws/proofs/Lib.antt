@@ -1,4 +1,4 @@
--- The theorems that span layers: covering and the round trips. `Whole` has the statements for whole texts.
+-- The theorems that span layers: covering and the round trips. `Whole` has the statements for whole texts. `Keeps`: dictionaries that grow.
 pub mod Pieces
 pub mod Covers
 pub mod Rows
@@ -7,4 +7,5 @@ pub mod Signatures
 pub mod Heads
 pub mod Whole
 pub mod There
+pub mod Keeps
 pub mod Starred
