@@ -19,7 +19,7 @@ typedef struct {
     size_t number; /* 0, or the refusal's number */
     size_t place;  /* refused: an index from 0 into the input, the record's index, or the row for 29; else 0 */
     size_t length; /* accepted: characters of text, codewords of a symbol written, bytes of a day file; 0 for conformity; refused: 0 */
-    size_t used;   /* symbol accepted: codewords before the first pad, all of them if there is no pad; record added: its number; else 0 */
+    size_t used;   /* symbol accepted: codewords before the first pad, all of them if there is no pad; record added: its number; squeezed: live records; else 0 */
 } ddoc_answer;
 
 /* A field: a row of the dictionary, and where its data stand in a slice. 12 bytes. */
@@ -122,6 +122,15 @@ ddoc_answer ddoc_day_withdraw(uint8_t *file, size_t room, size_t length, size_t 
 /* Where in the slice the text of the record of that number stands. Refused, in this order: 6, 35, 37, 5 when the text has more than
  * 1,000 bytes. */
 ddoc_part ddoc_day_fetch(const uint8_t *file, size_t room, size_t length, size_t number);
+
+/* Takes back the room of withdrawn records: the live ones stand side by side in their old order, bytes unchanged, with a new trailer,
+ * and the bytes from the new end to the old one are zero. The answer's `length` is the file's now, `used` the count of live records.
+ * Their numbers have changed: the two lists, of `old_room` and `new_room` entries, get an entry for each live record in the order of
+ * the file, its old number and its new one; the other entries are untouched. Refused, in this order: 6 for the slice, 35, 6 for a
+ * list with fewer entries than live records; the lists are untouched too. File and lists must not overlap; the lists may stand at
+ * any address. */
+ddoc_answer ddoc_day_squeeze(uint8_t *file, size_t room, size_t length, uint32_t *old_numbers, size_t old_room,
+                             uint32_t *new_numbers, size_t new_room);
 
 #ifdef __cplusplus
 }

@@ -1,5 +1,5 @@
 /* Measures day files of 32,768 bytes: checking one (ddoc_day_fetch of its first record, which checks all of it) in GB/s, and adding to a file
- * that already has 1,000 records in microseconds. `bench_files [RUNS]`. No test: it fails only on a wrong answer. */
+ * that already has 1,000 records, and squeezing one, in microseconds. `bench_files [RUNS]`. No test: it fails only on a wrong answer. */
 #define _POSIX_C_SOURCE 199309L
 #include "ddoc.h"
 
@@ -84,6 +84,35 @@ static void add(size_t records, size_t characters, long runs) {
     printf("add to a file of %zu bytes, %zu records: least %.2f, mean %.2f microseconds\n", length, records, least, sum / (double)runs);
 }
 
+/* The whole file is put back before each call; that time is measured with it. */
+static void squeeze(size_t records, size_t characters, long runs) {
+    static uint32_t olds[DDOC_FILE / 7], news[DDOC_FILE / 7];
+    size_t length = filled(records, characters);
+    for (size_t number = 0; number < records; number += 2) {
+        ddoc_answer answer = ddoc_day_withdraw(file, DDOC_FILE, length, number);
+        if (answer.number != 0) {
+            fail("withdrawing", answer.number);
+        }
+    }
+    memcpy(before, file, sizeof file);
+    double least = 0, sum = 0;
+    for (long run = 0; run < runs; run++) {
+        double begin = now();
+        for (int call = 0; call < CALLS; call++) {
+            memcpy(file, before, length);
+            ddoc_answer answer = ddoc_day_squeeze(file, DDOC_FILE, length, olds, DDOC_FILE / 7, news, DDOC_FILE / 7);
+            if (answer.number != 0) {
+                fail("squeezing", answer.number);
+            }
+        }
+        double each = (now() - begin) / CALLS;
+        least = run == 0 || each < least ? each : least;
+        sum += each;
+    }
+    printf("squeeze %zu bytes, %zu records, half of them withdrawn: least %.2f, mean %.2f microseconds\n", length, records, least,
+           sum / (double)runs);
+}
+
 int main(int arguments, char **argument) {
     long runs = arguments > 1 ? atol(argument[1]) : USUAL_RUNS;
     if (runs < 1) {
@@ -96,5 +125,7 @@ int main(int arguments, char **argument) {
     check(0, runs);
     add(1000, 25, runs);
     add(1000, 0, runs);
+    squeeze(1000, 25, runs);
+    squeeze(100, 300, runs);
     return 0;
 }

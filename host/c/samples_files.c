@@ -13,6 +13,8 @@ static unsigned passed, failed;
 
 /* "AB" live and "C" withdrawn: two records, and the trailer behind them. */
 static const uint8_t two[] = {1, 0, 2, 'A', 'B', 0, 0, 1, 'C', 0, 0, 0, 0, 0, 0, 0, 5, 0, 0, 0, 2, 0, 0, 0, 9};
+/* squeezed, and the two lists' numbers with one entry more */
+static const uint8_t one[sizeof two] = {1, 0, 2, 'A', 'B', 0, 0, 0, 0, 0, 0, 0, 1, 0, 0, 0, 5};
 /* and with "" added */
 static const uint8_t three[] = {1, 0, 2, 'A', 'B', 0, 0, 1, 'C', 1, 0, 0, 0, 0, 0, 0, 0, 0, 0, 5, 0, 0, 0, 9, 0, 0, 0, 3, 0, 0, 0, 12};
 
@@ -56,6 +58,31 @@ static void sequence(void) {
     part("is fetched as an empty part", ddoc_day_fetch(lent, DDOC_FILE, sizeof three, 2), 0, 12, 0);
 }
 
+/* The lists stand at odd addresses: the first list's entry is byte 1 to 4 of a buffer, with a guard around it. */
+static void squeezed(void) {
+    uint8_t olds[16], news[16], untouched[16], zero[16];
+    memset(untouched, UNTOUCHED, sizeof untouched);
+    memcpy(zero, untouched, sizeof zero);
+    memset(zero + 1, 0, 4);
+    start(two, sizeof two);
+    memcpy(olds, untouched, sizeof olds);
+    memcpy(news, untouched, sizeof news);
+    uint32_t *old_list = (uint32_t *)(void *)(olds + 1), *new_list = (uint32_t *)(void *)(news + 1);
+    answered("a list too short: refused 6", ddoc_day_squeeze(lent, DDOC_FILE, sizeof two, old_list, 0, new_list, 2), 6, 0, 0);
+    answered("the other too short, at a null pointer: refused 6", ddoc_day_squeeze(lent, DDOC_FILE, sizeof two, old_list, 2, NULL, 0), 6, 0, 0);
+    answered("no file: refused 35", ddoc_day_squeeze(lent, DDOC_FILE, sizeof two - 1, old_list, 2, new_list, 2), 35, 0, 0);
+    told("the lists are untouched", memcmp(olds, untouched, 16) == 0 && memcmp(news, untouched, 16) == 0);
+    ddoc_answer answer = ddoc_day_squeeze(lent, DDOC_FILE, sizeof two, old_list, 2, new_list, 1);
+    memcpy(right, one, sizeof one);
+    answered("the withdrawn record goes", answer, 0, 17, 1);
+    told("and both lists have one number", memcmp(olds, zero, 16) == 0 && memcmp(news, zero, 16) == 0);
+    answered("squeezed again, it is the same", ddoc_day_squeeze(lent, DDOC_FILE, 17, old_list, 1, new_list, 1), 0, 17, 1);
+    const uint8_t empty[8] = {0};
+    start(empty, sizeof empty);
+    answered("an empty file needs no lists", ddoc_day_squeeze(lent, sizeof lent, 8, NULL, 0, NULL, 0), 0, 8, 0);
+    answered("no slice: refused 6", ddoc_day_squeeze(NULL, 0, 8, NULL, 0, NULL, 0), 6, 0, 0);
+}
+
 static void edges(void) {
     static const uint8_t long_text[1001];
     start(two, sizeof two);
@@ -73,6 +100,7 @@ static void edges(void) {
 
 int main(void) {
     sequence();
+    squeezed();
     edges();
     printf("%u passed, %u failed\n", passed, failed);
     return failed != 0;

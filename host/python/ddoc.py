@@ -83,6 +83,7 @@ FUNCTIONS = {
     "ddoc_day_add": (Answer, [c_void_p, c_size_t, c_size_t, c_char_p, c_size_t]),
     "ddoc_day_withdraw": (Answer, [c_void_p, c_size_t, c_size_t, c_size_t]),
     "ddoc_day_fetch": (Part, [c_void_p, c_size_t, c_size_t, c_size_t]),
+    "ddoc_day_squeeze": (Answer, [c_void_p, c_size_t, c_size_t, c_void_p, c_size_t, c_void_p, c_size_t]),
 }
 
 _library = None
@@ -207,6 +208,10 @@ class DayFile:
     def call_fetch(self, number):
         return function("ddoc_day_fetch")(self.slice, self.room, self.length, number)
 
+    def call_squeeze(self, olds, old_room, news, new_room):
+        """With the first so many entries of two ctypes arrays of thirty-two-bit numbers."""
+        return function("ddoc_day_squeeze")(self.slice, self.room, self.length, olds, old_room, news, new_room)
+
     def add(self, text):
         """The number of the new record. Raises Refused."""
         answer = self.call_add(text)
@@ -223,3 +228,12 @@ class DayFile:
         part = self.call_fetch(number)
         accepted(part)
         return self.slice.raw[part.start : part.start + part.length]
+
+    def squeeze(self):
+        """The old numbers of the live records; their new ones count from 0. Raises Refused."""
+        most = FILE_ROOM // 7
+        olds, news = (c_uint32 * most)(), (c_uint32 * most)()
+        answer = self.call_squeeze(olds, most, news, most)
+        accepted(answer)
+        self.length = answer.length
+        return list(olds[: answer.used])

@@ -264,6 +264,22 @@ class Steps:
         right = {"number": out.get("refused", 0), "place": out.get("place", 0), "which": 0, "start": start, "length": length}
         return differences(file.call_fetch(step["number"]), right)
 
+    def squeeze(self, file, step, out):
+        rooms = (step["olds_len"], step["news_len"])
+        lent = [[0xA5A5A5A5] * (room + GUARD) for room in rooms]
+        lists = [(ctypes.c_uint32 * len(numbers))(*numbers) for numbers in lent]
+        answer = file.call_squeeze(lists[0], rooms[0], lists[1], rooms[1])
+        if "refused" in out:
+            right, kept = refusal(out), ([], [])
+        else:
+            right, kept = {"number": 0, "place": 0, "length": out["length"], "used": len(out["olds"])}, (out["olds"], out["news"])
+            file.length = answer.length
+        found = differences(answer, right)
+        for name, numbers, before, after in zip(("old", "new"), kept, lent, lists):
+            if list(after) != numbers + before[len(numbers) :]:
+                found.append(f"the list of {name} numbers is {list(after)[: len(numbers) + 3]} .., should be {numbers} and then what was lent")
+        return found
+
 
 OPERATIONS = {
     "read_symbol": Reading,

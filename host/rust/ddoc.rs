@@ -14,7 +14,7 @@ pub struct Answer {
     pub place: usize,
     /// Characters of text, codewords of a symbol written, or bytes of a day file; 0 if refused and for conformity.
     pub length: usize,
-    /// Codewords before the first pad, all of them if there is no pad; the number of a record added; 0 if refused and for texts.
+    /// Codewords before the first pad, all of them if there is no pad; the number of a record added; live records; 0 if refused and for texts.
     pub used: usize,
 }
 
@@ -98,6 +98,15 @@ extern "C" {
     fn ddoc_day_add(file: *mut u8, room: usize, length: usize, text: *const u8, text_length: usize) -> Answer;
     fn ddoc_day_withdraw(file: *mut u8, room: usize, length: usize, number: usize) -> Answer;
     fn ddoc_day_fetch(file: *const u8, room: usize, length: usize, number: usize) -> Part;
+    fn ddoc_day_squeeze(
+        file: *mut u8,
+        room: usize,
+        length: usize,
+        old_numbers: *mut u32,
+        old_room: usize,
+        new_numbers: *mut u32,
+        new_room: usize,
+    ) -> Answer;
 }
 
 // Slices cannot overlap where one of them is written to, and the library keeps no pointer.
@@ -161,4 +170,14 @@ pub fn day_withdraw(file: &mut [u8], length: usize, number: usize) -> Answer {
 /// The text of the record of that number, as a part of `file`.
 pub fn day_fetch(file: &[u8], length: usize, number: usize) -> Part {
     unsafe { ddoc_day_fetch(file.as_ptr(), file.len(), length, number) }
+}
+
+/// Takes back the room of withdrawn records: the live ones in their old order, zeros up to the old end. `length` is the file's now, `used`
+/// the live records; the two lists begin with their old and their new numbers, and their other entries are untouched. Refused: all is untouched.
+pub fn day_squeeze(file: &mut [u8], length: usize, old_numbers: &mut [u32], new_numbers: &mut [u32]) -> Answer {
+    unsafe {
+        let (olds, old_room) = (old_numbers.as_mut_ptr(), old_numbers.len());
+        let (news, new_room) = (new_numbers.as_mut_ptr(), new_numbers.len());
+        ddoc_day_squeeze(file.as_mut_ptr(), file.len(), length, olds, old_room, news, new_room)
+    }
 }

@@ -42,11 +42,16 @@ fn some_number(dice: &mut Dice, count: usize) -> usize {
 }
 
 fn some_op(dice: &mut Dice, count: usize) -> Op {
-    match dice.below(5) {
-        0 | 1 => Op::Add(some_text(dice)),
-        2 => Op::Withdraw(some_number(dice, count)),
+    match dice.below(11) {
+        0..=3 => Op::Add(some_text(dice)),
+        4 | 5 => Op::Withdraw(some_number(dice, count)),
+        6 => Op::Squeeze(some_entries(dice, count), some_entries(dice, count)),
         _ => Op::Fetch(some_number(dice, count)),
     }
+}
+
+fn some_entries(dice: &mut Dice, count: usize) -> usize {
+    dice.one_of(&[count, count, count + 1, count + 20, count / 2, count.saturating_sub(1), 0])
 }
 
 fn some_room(dice: &mut Dice) -> usize {
@@ -106,7 +111,7 @@ fn sequences(run: &mut Run<Bench>) {
 /// Every call on what stands in the slice.
 fn every_call(dice: &mut Dice, bench: &mut Bench) {
     let length = bench.length;
-    for op in [Op::Fetch(dice.below(5)), Op::Withdraw(dice.below(5)), Op::Add(noise(dice, 5))] {
+    for op in [Op::Fetch(dice.below(5)), Op::Withdraw(dice.below(5)), Op::Add(noise(dice, 5)), Op::Squeeze(dice.below(6), dice.below(6))] {
         bench.call(&op);
         bench.length = length;
     }
@@ -176,6 +181,57 @@ fn damage(run: &mut Run<Bench>) {
     });
 }
 
+/// Which records of a file are withdrawn.
+const WITHDRAWN: [fn(usize, usize) -> bool; 5] =
+    [|_, _| true, |_, _| false, |at, _| at == 0, |at, count| at + 1 == count, |at, _| at % 2 == 1];
+
+fn squeezing(run: &mut Run<Bench>) {
+    run.group("all, none, the first, the last, every second record withdrawn", |dice, bench| {
+        for withdrawn in WITHDRAWN {
+            for usual in [0, 1, 20, 300, 1000, 1001, 5000] {
+                for size in [8, 15 + usual, 2000 + usual, MOST_BYTES - 1, MOST_BYTES] {
+                    let mut list = list_of_size(dice, size, usual);
+                    let count = list.len();
+                    for (at, scan) in list.iter_mut().enumerate() {
+                        scan.live = !withdrawn(at, count);
+                    }
+                    let live = list.iter().filter(|scan| scan.live).count();
+                    let file = bytes_of(&list);
+                    for (olds, news) in [(live, live), (count, count + 1), (live.saturating_sub(1), live), (live, live.saturating_sub(1)), (0, 0)] {
+                        let room = some_room(dice);
+                        bench.lend(dice, &file, room);
+                        bench.call(&Op::Squeeze(olds, news));
+                        bench.call(&Op::Squeeze(live, live));
+                        bench.call(&Op::Fetch(live / 2));
+                    }
+                }
+            }
+        }
+    });
+    run.group("a full file squeezed and filled again", |dice, bench| {
+        for usual in [5, 200, 1000] {
+            bench.lend(dice, &EMPTY, MOST_BYTES);
+            let mut list = Ok(Vec::new());
+            for round in 0..4 {
+                for _ in 0..MOST_BYTES / (7 + usual) + 2 {
+                    list = bench.call_on(&Op::Add(noise(dice, usual)), list);
+                }
+                let count = list.as_ref().map_or(0, Vec::len);
+                for number in (0..count).filter(|number| number % 5 != round) {
+                    list = bench.call_on(&Op::Withdraw(number), list);
+                }
+                // Refused with 36 before, accepted after exactly where there is room.
+                list = bench.call_on(&Op::Add(noise(dice, 1000)), list);
+                list = bench.call_on(&Op::Squeeze(count, count), list);
+                let room = MOST_BYTES - bench.length;
+                for length in [(room + 1).saturating_sub(7), room.saturating_sub(7)] {
+                    list = bench.call_on(&Op::Add(noise(dice, length.min(1000))), list);
+                }
+            }
+        }
+    });
+}
+
 fn limits(run: &mut Run<Bench>) {
     run.group("files of 0 to 8 and of 32,767 to 32,769 bytes", |dice, bench| {
         for length in 0..=8 {
@@ -229,6 +285,7 @@ fn main() {
     let mut run = Run::new(run::given_seed("files", USUAL_SEED), Bench::new);
     sequences(&mut run);
     damage(&mut run);
+    squeezing(&mut run);
     limits(&mut run);
     coverage(&mut run);
     run.end()

@@ -54,6 +54,8 @@ pub enum Op {
     Add(Vec<u8>),
     Withdraw(usize),
     Fetch(usize),
+    /// With two lists of so many entries.
+    Squeeze(usize, usize),
 }
 
 pub struct Bench {
@@ -152,11 +154,31 @@ impl Bench {
                 let right = part(found);
                 (right.number, is == right)
             }
+            Op::Squeeze(olds, news) => {
+                let mut lists = [vec![u32::MAX - 7; olds + 3], vec![u32::MAX - 9; news + 3]];
+                let mut rights = lists.clone();
+                let [old, new] = &mut lists;
+                let is = ddoc::day_squeeze(slice, before, &mut old[..*olds], &mut new[..*news]);
+                let kept = after.as_ref().map_err(|r| Refusal { ..*r }).and_then(|list| paper_file::squeeze(list, *olds, *news));
+                let right = answered(kept.as_ref().map_err(|r| Refusal { ..*r }).map(|(list, _)| (paper_file::bytes_of(list).len(), list.len())));
+                if let Ok((list, numbers)) = kept {
+                    for (at, number) in numbers.into_iter().enumerate() {
+                        rights[0][at] = number;
+                        rights[1][at] = at as u32;
+                    }
+                    after = Ok(list);
+                    self.length = is.length;
+                }
+                (right.number, is == right && lists == rights)
+            }
         };
         if number == 0 && !matches!(op, Op::Fetch(_)) {
             if let Ok(list) = &after {
                 let bytes = paper_file::bytes_of(list);
                 self.right[GUARD..GUARD + bytes.len()].copy_from_slice(&bytes);
+                if bytes.len() < before {
+                    self.right[GUARD + bytes.len()..GUARD + before].fill(0);
+                }
             }
         }
         self.note(op, number, same, before);

@@ -1,4 +1,4 @@
-//! The day file, written from document 02 (K7) alone: a plain list of texts with states, its bytes, and bytes taken apart.
+//! The day file, written from document 02 (K7, K8) alone: a plain list of texts with states, its bytes, and bytes taken apart.
 //! Bytes are good if the list that their records give makes the same bytes again. The tests hold the library against it.
 
 use crate::paper::{Refusal, LONGEST_TEXT};
@@ -98,4 +98,13 @@ pub fn fetch(list: &[Scan], number: usize) -> Result<(usize, usize), Refusal> {
     }
     let before: usize = list[..number].iter().map(|scan| 3 + scan.text.len()).sum();
     Ok((before + 3, length))
+}
+
+/// The live scans with their old numbers, if lists of so many entries hold them.
+pub fn squeeze(list: &[Scan], olds: usize, news: usize) -> Result<(Vec<Scan>, Vec<u32>), Refusal> {
+    let kept: Vec<(u32, &Scan)> = (0..).zip(list).filter(|(_, scan)| scan.live).collect();
+    if kept.len() > olds.min(news) {
+        return refused(SLICE_TOO_SHORT);
+    }
+    Ok((kept.iter().map(|(_, scan)| (*scan).clone()).collect(), kept.iter().map(|(number, _)| *number).collect()))
 }

@@ -22,7 +22,9 @@ use Rattle.ddoc.specs.declared.Answer.{Answer}
 use Rattle.ddoc.specs.declared.Message.{Message}
 use Rattle.ddoc.specs.declared.Part.{Part}
 use Rattle.ddoc.specs.Answers.{readingAnswer, writingAnswer, Writes, conformityAnswer, messageAnswer, listAfter, writtenAnswer}
-use Rattle.ddoc.specs.Files.{addedNumbers, withdrawnNumbers, partNumbers}
+use Rattle.squeeze.specs.Squeeze.{squeezing, squeezedSlice, oldsAfter, newsAfter}
+use Rattle.squeeze.specs.Answers.{squeezedAnswer}
+use Rattle.ddoc.specs.Files.{addedNumbers, withdrawnNumbers, partNumbers, squeezedNumbers}
 
 abbrev ReadsSymbol : (codewords old new : List ℕ) → Answer → Type 0
 ReadsSymbol ws old new r = (r ≡ readingAnswer (readSymbol ws (length old))) × (new ≡ lentAfter (readSymbol ws (length old)) old)
@@ -71,3 +73,13 @@ Fetches file len k r = r ≡ partNumbers (placedAnswer (placing file len k))
 
 pub day-fetch : (file : List ℕ) (len k : ℕ) (r r′ : Part) → Fetches file len k r → Fetches file len k r′ → r ≡ r′
 day-fetch file len k r r′ p q = p ∙ sym q
+
+pub record Squeezes (file : List ℕ) (len : ℕ) (olds news file′ olds′ news′ : List ℕ) (r : Answer) : Type 0 where
+  pub answer : r ≡ squeezedNumbers (squeezedAnswer (squeezing file len (length olds) (length news)))
+  pub lent : file′ ≡ squeezedSlice len (squeezing file len (length olds) (length news)) file
+  pub old : olds′ ≡ oldsAfter (squeezing file len (length olds) (length news)) olds
+  pub new : news′ ≡ newsAfter (squeezing file len (length olds) (length news)) news
+
+pub day-squeeze : (f : List ℕ) (len : ℕ) (os ns f₁ os₁ ns₁ f₂ os₂ ns₂ : List ℕ) (r₁ r₂ : Answer)
+    → Squeezes f len os ns f₁ os₁ ns₁ r₁ → Squeezes f len os ns f₂ os₂ ns₂ r₂ → (r₁ ≡ r₂) × (f₁ ≡ f₂) × (os₁ ≡ os₂) × (ns₁ ≡ ns₂)
+day-squeeze f len os ns f₁ os₁ ns₁ f₂ os₂ ns₂ r₁ r₂ p q = (p .answer ∙ sym (q .answer), p .lent ∙ sym (q .lent), p .old ∙ sym (q .old), p .new ∙ sym (q .new))

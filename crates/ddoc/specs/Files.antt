@@ -6,6 +6,8 @@ use Rattle.day_file.specs.declared.Withdrawn.{Withdrawn}
 use Rattle.day_file.specs.declared.Withdrawn.the-variants.{Gone, NotGone}
 use Rattle.day_file.specs.declared.Placed.{Placed}
 use Rattle.day_file.specs.declared.Placed.the-variants.{At, Nowhere}
+use Rattle.squeeze.specs.declared.Squeezed.{Squeezed}
+use Rattle.squeeze.specs.declared.Squeezed.the-variants.{Done as Squeezes, NotDone}
 use Rattle.ddoc.specs.declared.Answer.{Answer}
 use Rattle.ddoc.specs.declared.Part.{Part}
 
@@ -23,3 +25,8 @@ withdrawnNumbers len (NotGone r) = record { number = r .number; place = r .place
 abbrev pub partNumbers : Placed → Part
 partNumbers (At start n) = record { number = 0; place = 0; which = 0; start = start; length = n }
 partNumbers (Nowhere r) = record { number = r .number; place = r .place; which = 0; start = 0; length = 0 }
+
+-- the file's length now, and the count of live records
+abbrev pub squeezedNumbers : Squeezed → Answer
+squeezedNumbers (Squeezes n size) = record { number = 0; place = 0; length = size; used = n }
+squeezedNumbers (NotDone r) = record { number = r .number; place = r .place; length = 0; used = 0 }

@@ -13,7 +13,9 @@ ghost use Rattle.text_writer.specs.Writing.{writeFirst, writtenOver};
 ghost use Rattle.ddoc.specs.Answers.{readingAnswer, Writes, conformityAnswer, refusalOf, messageAnswer, wholeAnswer, listAfter, writtenAnswer};
 ghost use Rattle.day_file.specs.Promise.{adding, withdrawing, placing, sliceAfter};
 ghost use Rattle.day_file.specs.Answers.{addedAnswer, withdrawnAnswer, placedAnswer};
-ghost use Rattle.ddoc.specs.Files.{addedNumbers, withdrawnNumbers, partNumbers};
+ghost use Rattle.squeeze.specs.Squeeze.{squeezing, squeezedSlice, oldsAfter, newsAfter};
+ghost use Rattle.squeeze.specs.Answers.{squeezedAnswer};
+ghost use Rattle.ddoc.specs.Files.{addedNumbers, withdrawnNumbers, partNumbers, squeezedNumbers};
 use conformity::Conformity;
 use day_file::Added;
 use day_file::Placed;
@@ -22,6 +24,7 @@ use dictionary::Field;
 use dictionary::Fields;
 use header::Header;
 use refusal::Refusal;
+use squeeze::Squeezed;
 use symbol_reader::SymbolRead;
 use symbol_writer::SymbolWritten;
 use text_reader::Outcome;
@@ -307,6 +310,36 @@ pub extern "C" fn ddoc_day_fetch(file: &[u8], len: usize, number: usize) -> Part
             which: 0,
             start: 0,
             length: 0,
+        },
+    }
+}
+
+// The answer's length is the file's now, and `used` the count of live records.
+#[no_mangle]
+pub extern "C" fn ddoc_day_squeeze(
+    file: &mut [u8],
+    len: usize,
+    old: &mut [u32],
+    new: &mut [u32],
+) -> Answer
+    ensures answer { λ r. ⌜ r ≡ squeezedNumbers (squeezedAnswer (squeezing (now (file .entry)) len (length (now (old .entry))) (length (now (new .entry))))) ⌝ }
+    ensures lent { λ r. ⌜ now (file .exit) ≡ squeezedSlice len (squeezing (now (file .entry)) len (length (now (old .entry))) (length (now (new .entry)))) (now (file .entry)) ⌝ }
+    ensures olds { λ r. ⌜ now (old .exit) ≡ oldsAfter (squeezing (now (file .entry)) len (length (now (old .entry))) (length (now (new .entry)))) (now (old .entry)) ⌝ }
+    ensures news { λ r. ⌜ now (new .exit) ≡ newsAfter (squeezing (now (file .entry)) len (length (now (old .entry))) (length (now (new .entry)))) (now (new .entry)) ⌝ }
+{
+    let answer = squeeze::squeeze(file, len, old, new);
+    match answer {
+        Squeezed::Done(n, size) => Answer {
+            number: 0,
+            place: 0,
+            length: size,
+            used: n,
+        },
+        Squeezed::NotDone(r) => Answer {
+            number: r.number as usize,
+            place: r.place,
+            length: 0,
+            used: 0,
         },
     }
 }

@@ -1,0 +1,3 @@
+pub mod Squeeze
+pub mod Answers
+pub mod Inner
