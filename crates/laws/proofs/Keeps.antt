@@ -47,11 +47,13 @@ kept-bind R S (good a) y f g k h = rw (k .1) (h a (k .0) (k .2))
 kept-bind R S (refused n p) y f g (inl q) h = inl q
 kept-bind R S (refused n p) y f g (inr q) h = inr (rw q)
 
-kept-same : {A C D : Type 0} (S : C → D → Type 0) (x : Answer A) (f : A → Answer C) (g : A → Answer D) → ((a : A) → Kept S (f a) (g a)) → Kept S (x >>= f) (x >>= g)
+kept-same : {A C D : Type 0} (S : C → D → Type 0) (x : Answer A) (f : A → Answer C) (g : A → Answer D) → ((a : A) → Kept S (f a) (g a))
+    → Kept S (x >>= f) (x >>= g)
 kept-same S (good a) f g h = h a
 kept-same S (refused n p) f g h = inr refl
 
-kept-check : {C D : Type 0} (S : C → D → Type 0) (a b : Bool) (k p : ℕ) (x : Answer C) (y : Answer D) → a ≡ b → Kept S x y → Kept S (check a k p >> x) (check b k p >> y)
+kept-check : {C D : Type 0} (S : C → D → Type 0) (a b : Bool) (k p : ℕ) (x : Answer C) (y : Answer D) → a ≡ b → Kept S x y
+    → Kept S (check a k p >> x) (check b k p >> y)
 kept-check S true true k p x y e h = h
 kept-check S true false k p x y e h = clash (sym e)
 kept-check S false true k p x y e h = clash e
@@ -121,22 +123,34 @@ module _ (d e : Dictionary) (dd : distinct d ≡ true) (de : distinct e ≡ true
       go (good x) q = let is = find-is a b 0 p d x q in let rd = row-is x is in on x is rd (ext .holds (x .row) (x .number, rd))
       go (refused n r) q = inl (find-16 a b 0 p d n r q)
 
+  -- a row that is not repeated is read on, under both
+  kept-new : (x y : Numbered) (before before′ : List Field) (p : ℕ) (u v : Answer (List Field)) → SameRow x y → SameFields d e before before′
+      → Kept (SameFields d e) u v
+      → Kept (SameFields d e)
+      (check (not (among (x .number) (rowsOf before))) identifier-repeated p >> u)
+      (check (not (among (y .number) (rowsOf before′))) identifier-repeated p >> v)
+  kept-new x y before before′ p u v r s h =
+      kept-check (SameFields d e) (not (among (x .number) (rowsOf before))) (not (among (y .number) (rowsOf before′))) identifier-repeated p u v
+      (ap not (among-same (x .number) (y .number) (x .row) before before′ (r .1) (r .2) s)) h
+
   -- THE ZONE, by induction on the number of fields still allowed
-  zone-keeps : (n : ℕ) (before before′ : List Field) (p : ℕ) (l : List ℕ) → SameFields d e before before′ → Kept (SameFields d e) (zone d n before p l) (zone e n before′ p l)
+  zone-keeps : (n : ℕ) (before before′ : List Field) (p : ℕ) (l : List ℕ) → SameFields d e before before′
+      → Kept (SameFields d e) (zone d n before p l) (zone e n before′ p l)
   unfolding zone
   zone-keeps zero before before′ p [] s = (before′, refl, s)
   zone-keeps zero before before′ p (c ∷ []) s = inr refl
   zone-keeps zero before before′ p (a ∷ b ∷ l) s =
       kept-bind SameRow (SameFields d e) (find a b 0 p d) (find a b 0 p e) _ _ (kept-find a b p) λ x y r.
-      kept-check (SameFields d e) (not (among (x .number) (rowsOf before))) (not (among (y .number) (rowsOf before′))) identifier-repeated p _ _ (ap not (among-same (x .number) (y .number) (x .row) before before′ (r .1) (r .2) s)) (inr refl)
+      kept-new x y before before′ p _ _ r s (inr refl)
   zone-keeps (suc n) before before′ p [] s = (before′, refl, s)
   zone-keeps (suc n) before before′ p (c ∷ []) s = inr refl
   zone-keeps (suc n) before before′ p (a ∷ b ∷ l) s =
       kept-bind SameRow (SameFields d e) (find a b 0 p d) (find a b 0 p e) _ _ (kept-find a b p) λ x y r.
-      kept-check (SameFields d e) (not (among (x .number) (rowsOf before))) (not (among (y .number) (rowsOf before′))) identifier-repeated p _ _ (ap not (among-same (x .number) (y .number) (x .row) before before′ (r .1) (r .2) s))
+      kept-new x y before before′ p _ _ r s
       (rw (← r .0) (kept-same (SameFields d e) (readData (x .row) p [] (p + 2) l) _ _ λ z.
       kept-check (SameFields d e) (leb (x .row .least) (length (z .chars))) (leb (x .row .least) (length (z .chars))) data-too-short p _ _ refl
-      (zone-keeps n _ _ (z .next) (z .rest) (same-snoc before before′ _ _ s (record { row = x .row; first = r .1; second = r .2; start = refl; length = refl; cut = refl })))))
+      (zone-keeps n _ _ (z .next) (z .rest)
+      (same-snoc before before′ _ _ s (record { row = x .row; first = r .1; second = r .2; start = refl; length = refl; cut = refl })))))
 
   -- THE WHOLE TEXT
   reading-keeps : (t : List ℕ) → Kept (SameReading d e) (reading d t) (reading e t)
@@ -145,7 +159,8 @@ module _ (d e : Dictionary) (dd : distinct d ≡ true) (de : distinct e ≡ true
       let S = SameReading d e in
       kept-same S (readHeader t) _ _ λ x.
       kept-same S (atMark (size (x .version)) (drop (size (x .version)) t)) _ _ λ h.
-      kept-bind (SameFields d e) S (zone d most-fields [] (size (x .version)) (h .before)) (zone e most-fields [] (size (x .version)) (h .before)) _ _ (zone-keeps most-fields [] [] (size (x .version)) (h .before) tt) λ fs gs same.
+      kept-bind (SameFields d e) S (zone d most-fields [] (size (x .version)) (h .before)) (zone e most-fields [] (size (x .version)) (h .before)) _ _
+      (zone-keeps most-fields [] [] (size (x .version)) (h .before) tt) λ fs gs same.
       kept-same S (readSignature (x .version) (suc (size (x .version) + length (h .before))) (h .behind)) _ _ λ signature.
       (_, refl, record { header = refl; fields = same; signature = refl; signed = refl })
 
@@ -161,7 +176,8 @@ module _ (d e : Dictionary) (dd : distinct d ≡ true) (de : distinct e ≡ true
   in-words (good a) new k = record { accepted = λ x q. rw (← same-good q) k; refused = λ n p q. not-refused q }
   in-words (refused m o) new k = record { accepted = λ x q. never q; refused = λ n p q other. go n p q other k }
     where
-      go : (n p : ℕ) → _≡_ {A = Answer Reading} (refused m o) (refused n p) → (n ≡ unknown-identifier → ⊥) → (m ≡ unknown-identifier) ⊎ (new ≡ refused m o) → new ≡ refused n p
+      go : (n p : ℕ) → _≡_ {A = Answer Reading} (refused m o) (refused n p) → (n ≡ unknown-identifier → ⊥)
+          → (m ≡ unknown-identifier) ⊎ (new ≡ refused m o) → new ≡ refused n p
       go n p q other (inl h) = let z : n ≡ unknown-identifier = cc in absurd (other z)
       go n p q other (inr h) = h ∙ q
 
@@ -187,7 +203,8 @@ none-new d e k room t n p h = go (readText d room t) refl
 pub same-data : (d e : Dictionary) (f g : Field) (t : List ℕ) → SameField d e f g → dataOf t f ≡ dataOf t g
 same-data d e f g t s = ap (λ n. take n (drop (f .start) t)) (s .length) ∙ ap (λ p. take (g .length) (drop p t)) (s .start)
 
-pub same-signed : (d e : Dictionary) → Keeps d e → (room : ℕ) (t : List ℕ) (x : Reading) → readText d room t ≡ good x → signedPart e room t ≡ signedPart d room t
+pub same-signed : (d e : Dictionary) → Keeps d e → (room : ℕ) (t : List ℕ) (x : Reading) → readText d room t ≡ good x
+    → signedPart e room t ≡ signedPart d room t
 unfolding signedPart
 same-signed d e k room t x h =
     let a = k room t .accepted x h in
@@ -256,7 +273,8 @@ same-reading d more u x y s =
     ∙ (ap (λ l. record { message = record { header = y .message .header; fields = y .message .fields; signature = l }; signed = x .signed }) (s .signature)
     ∙ ap (λ n. record { message = record { header = y .message .header; fields = y .message .fields; signature = y .message .signature }; signed = n }) (s .signed)))
 
-pub rows-same : (more : Dictionary) → distinct (rows ++ more) ≡ true → (room : ℕ) (t : List ℕ) (x : Reading) → readText rows room t ≡ good x → readText (rows ++ more) room t ≡ good x
+pub rows-same : (more : Dictionary) → distinct (rows ++ more) ≡ true → (room : ℕ) (t : List ℕ) (x : Reading) → readText rows room t ≡ good x
+    → readText (rows ++ more) room t ≡ good x
 rows-same more s room t x e =
     let a = rows-keep more s room t .accepted x e in
     a .1 ∙ ap good (sym (same-reading rows more s x (a .0) (a .2)))
@@ -276,18 +294,30 @@ put-in-keeps = ours-keep among-them refl (by-table rows among-them refl)
 -- ONLY A 16 CHANGES, AND IT DOES: a text with the identifier ZZ and the data 7, whose signature is 64 zeros, under our own rows and with
 -- a row for ZZ behind them: accepted with one digit, another refusal with one letter
 abbrev text : List ℕ
-text = (68 ∷ 67 ∷ 48 ∷ 50 ∷ 70 ∷ 82 ∷ 48 ∷ 49 ∷ 49 ∷ 50 ∷ 48 ∷ 52 ∷ 49 ∷ 48 ∷ 51 ∷ 68 ∷ 49 ∷ 48 ∷ 51 ∷ 69 ∷ 48 ∷ 49 ∷ 90 ∷ 90 ∷ 55 ∷ 31 ∷ []) ++ replicate 103 65
+text =
+    (68 ∷ 67 ∷ 48 ∷ 50 ∷ 70 ∷ 82 ∷ 48 ∷ 49 ∷ 49 ∷ 50 ∷ 48 ∷ 52 ∷ 49 ∷ 48 ∷ 51 ∷ 68 ∷ 49 ∷ 48 ∷ 51 ∷ 69 ∷ 48 ∷ 49 ∷ 90 ∷ 90 ∷ 55 ∷ 31 ∷ [])
+    ++ replicate 103 65
 
 abbrev read : Reading
 read = record {
   message = record {
-    header = record { version = 48 ∷ 50 ∷ []; authority = 70 ∷ 82 ∷ 48 ∷ 49 ∷ []; certificate = 49 ∷ 50 ∷ 48 ∷ 52 ∷ []; issue = 4157; signing = 4158; doctype = 48 ∷ 49 ∷ []; perimeter = 0 ∷ 0 ∷ []; country = 0 ∷ 0 ∷ [] };
+    header = record {
+      version = 48 ∷ 50 ∷ [];
+      authority = 70 ∷ 82 ∷ 48 ∷ 49 ∷ [];
+      certificate = 49 ∷ 50 ∷ 48 ∷ 52 ∷ [];
+      issue = 4157;
+      signing = 4158;
+      doctype = 48 ∷ 49 ∷ [];
+      perimeter = 0 ∷ 0 ∷ [];
+      country = 0 ∷ 0 ∷ [];
+    };
     fields = record { row = 110; start = 24; length = 1; cut = false } ∷ [];
     signature = replicate 64 0;
   };
   signed = 25;
 }
 
-pub then-known : map (λ d. readText d most-fields text) (rows ∷ (rows ++ (zz Numeric ∷ [])) ∷ (rows ++ (zz Alphabetic ∷ [])) ∷ []) ≡ refused unknown-identifier 22 ∷ good read ∷ refused wrong-character 24 ∷ []
+pub then-known : map (λ d. readText d most-fields text) (rows ∷ (rows ++ (zz Numeric ∷ [])) ∷ (rows ++ (zz Alphabetic ∷ [])) ∷ [])
+    ≡ refused unknown-identifier 22 ∷ good read ∷ refused wrong-character 24 ∷ []
 unfolding rows readText reading readHeader known parts part number atMark zone find readData does among allowed readSignature signatureChars bytes spare
 then-known = refl
