@@ -1,0 +1,5 @@
+pub mod Field
+pub mod Polynomial
+pub mod Words
+pub mod Tables
+pub mod Places
