@@ -1,0 +1,4 @@
+pub mod Sizes
+pub mod Answers
+pub mod Generator
+pub mod Register
