@@ -1,5 +1,5 @@
-/* The C interface of the library: the data codewords of a symbol are read into text and back, a text into the fields of a
- * message and back, the fields of a message are held against the table of its type, and scans are kept in day files.
+/* The C interface of the library: the data codewords of a symbol are read into text and back and get their check words, a text is read into
+ * the fields of a message and back, the fields of a message are held against the table of its type, and scans are kept in day files.
  * Nothing is kept between two calls and nothing is shared, so calls may run in several threads at once,
  * as long as each has its own output and work slice. All memory is the caller's but the stack, of which a call takes up to
  * 120 KB (ddoc_read_symbol, of codewords that change the mode at every place). The library needs memcpy and memset only. */
@@ -18,7 +18,7 @@ extern "C" {
 typedef struct {
     size_t number; /* 0, or the refusal's number */
     size_t place;  /* refused: an index from 0 into the input, the record's index, or the row for 29; else 0 */
-    size_t length; /* accepted: characters of text, codewords of a symbol written, bytes of a day file; 0 for conformity; refused: 0 */
+    size_t length; /* accepted: characters of text, codewords of a symbol written, words of a list with check words, bytes of a day file; 0 for conformity; refused: 0 */
     size_t used;   /* symbol accepted: codewords before the first pad, all of them if there is no pad; record added: its number; squeezed: live records; else 0 */
 } ddoc_answer;
 
@@ -82,6 +82,16 @@ enum { DDOC_WORK = 8192, DDOC_LARGEST = 1558 };
  * too short, or the refusal is 5, 7 or 8, all of it is untouched. Text, work slice and symbol must not overlap. */
 ddoc_answer ddoc_write_symbol(const uint8_t *text, size_t length, size_t largest, uint16_t *work, size_t work_room, uint8_t *symbol,
                               size_t room);
+
+/* The words of the longest list of ddoc_check_words, and the most data codewords that it takes. */
+enum { DDOC_LIST = 242, DDOC_SINGLE_BLOCK = 174 };
+
+/* Puts the whole codeword list of a symbol with a single block into the lent `list`, which has `room` bytes: the `count` data
+ * codewords and behind them their ECC 200 check words (ISO/IEC 16022), 5 to 68 of them for the 14 squares of 3 to 174 data codewords.
+ * Refused, in this order: 1 `count` is no capacity of a square size; 32 it is above 174; 6 `room` is less than data and check words
+ * together. Accepted: the answer's `length` is that of the list; the bytes behind it are untouched. Refused: every byte is untouched.
+ * The data and the list must not overlap. */
+ddoc_answer ddoc_check_words(const uint8_t *data, size_t count, uint8_t *list, size_t room);
 
 /* Reads a text of `length` characters into the lent list `fields`, which has `room` records. Less than 64 is refused
  * with 6. Accepted: the first records of the list, as many as the answer's `fields`, are the fields in the order of

@@ -1,5 +1,6 @@
 // Times the library beside others on the same texts, in one run. Reading, beside libdmtx and zxing-cpp: 40 texts
-// like those of 2D-DOC, mainly in C40, and 40 short mixed ones. Writing, beside three encoders: 200 of each.
+// like those of 2D-DOC, mainly in C40, and 40 short mixed ones. Writing, beside three encoders: 200 of each. Check words, beside zxing-cpp
+// and iec16022 alone, zint and libdmtx with the whole symbol: 40 lists.
 // Nothing is asserted about a time, and times under an emulator say nothing about a real processor.
 #include "../../include/ddoc.h"
 #include "decoders.hpp"
@@ -218,6 +219,50 @@ void bench_writing()
     writing_table("mixed texts", mixes);
 }
 
+// ---- check words
+
+const CheckMaker *const makers[] = {&library_checks, &zxing_checks, &iec_checks};
+const Encoder *const whole[] = {&zint_fast, &dmtx_ascii};
+
+// Small letters and signs in turn: every encoder fills 170 to 174 data codewords of 48x48 with them.
+const std::string filling(Random &random)
+{
+    std::string text;
+    while (text.size() < 172) text += char((text.size() % 2 ? 'a' : '!') + random() % 10);
+    return text;
+}
+
+void bench_checks()
+{
+    printf("\nCheck words of 174 random data codewords: for each list the least of %d rounds, all in turn. Ratio: ddoc_check_words' time to the other's.\n", rounds);
+    printf("libdmtx and zint have no call for check words alone: their figure is for a whole symbol of that size.\n");
+    Random random(20261116);
+    const int lists = 40, made = sizeof makers / sizeof makers[0];
+    double least[made] = {}, symbol[2] = {};
+    for (int i = 0; i < lists; i++) {
+        Codewords data(DDOC_SINGLE_BLOCK);
+        for (uint8_t &word : data) word = uint8_t(random());
+        const std::string text = filling(random);
+        double best[made], best_symbol[2] = {1, 1};
+        std::fill(best, best + made, 1);
+        for (const CheckMaker *m : makers)
+            if (m->list(data) != library_checks.list(data)) {
+                fprintf(stderr, "%s makes other check words\n", m->name);
+                exit(1);
+            }
+        for (int r = 0; r < rounds; r++)
+            for (int m = 0; m < made; m++) best[m] = std::min(best[m], makers[m]->seconds(data));
+        for (int r = 0; r < writing_rounds; r++)
+            for (int e = 0; e < 2; e++) best_symbol[e] = std::min(best_symbol[e], whole[e]->seconds(text));
+        for (int m = 0; m < made; m++) least[m] += best[m];
+        for (int e = 0; e < 2; e++) symbol[e] += best_symbol[e];
+    }
+    printf("  %-34s %10s %10s\n", "", "us/list", "ratio");
+    for (int m = 0; m < made; m++) printf("  %-34s %10.2f %10.2f\n", makers[m]->name, least[m] / lists * 1e6, least[0] / least[m]);
+    for (int e = 0; e < 2; e++)
+        printf("  %-34s %10.2f %10.2f\n", (std::string(whole[e]->name) + ", whole symbol").c_str(), symbol[e] / lists * 1e6, least[0] / symbol[e]);
+}
+
 }  // namespace
 
 int main(int arguments, char **argument)
@@ -252,4 +297,5 @@ int main(int arguments, char **argument)
     table("short mixed texts", shorts);
     fflush(stdout);
     bench_writing();
+    bench_checks();
 }

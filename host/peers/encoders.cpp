@@ -1,6 +1,7 @@
 // How the encoders are called; encoders.hpp says what for. None but libdmtx has a public call that
 // gives codewords: zxing-cpp exports one without a header, the others give modules, which are turned back.
 #include "encoders.hpp"
+#include "../../include/ddoc.h"
 #include <ZXing/ByteArray.h>
 #include <chrono>
 #include <cstdlib>
@@ -13,6 +14,7 @@
 #include <zint.h>
 extern "C" {
 #include <iec16022/iec16022ecc200.h>
+#include <iec16022/reedsol.h>
 // What a change of mode costs, from and to ASCII, C40 and four other modes; its header doesn't show it.
 extern unsigned char switchcost[6][6];
 }
@@ -21,6 +23,10 @@ namespace ZXing {
 namespace DataMatrix {
 enum class SymbolShape { NONE, SQUARE, RECTANGLE };
 ByteArray Encode(const std::wstring &, SymbolShape, int, int, int, int);
+struct SymbolInfo {
+    static const SymbolInfo *Lookup(int, SymbolShape);
+};
+void EncodeECC200(ByteArray &, const SymbolInfo &);
 }
 }  // namespace ZXing
 
@@ -31,6 +37,12 @@ template <class Maker> Codewords words(const std::string &text)
 {
     Maker maker(text);
     return maker.run() ? maker.words() : Codewords{};
+}
+
+template <class Maker> Codewords list(const std::string &text)
+{
+    Maker maker(text);
+    return maker.run() ? maker.list() : Codewords{};
 }
 
 template <class Maker> double seconds(const std::string &text)
@@ -62,6 +74,7 @@ struct ZXingMaker {
         }
     }
     Codewords words() const { return made; }
+    Codewords list() const { return {}; }
 };
 
 template <int scheme> struct DmtxMaker {
@@ -79,6 +92,7 @@ template <int scheme> struct DmtxMaker {
         int count = dmtxGetSymbolAttribute(DmtxSymAttribSymbolDataWords, encode->region.sizeIdx);
         return Codewords(encode->message->code, encode->message->code + count);
     }
+    Codewords list() const { return Codewords(encode->message->code, encode->message->code + encode->message->codeSize); }
 };
 
 template <int mode> struct ZintMaker {
@@ -92,13 +106,15 @@ template <int mode> struct ZintMaker {
     }
     ~ZintMaker() { ZBarcode_Delete(symbol); }
     bool run() { return ZBarcode_Encode(symbol, reinterpret_cast<unsigned char *>(&text[0]), int(text.size())) < ZINT_ERROR; }
-    Codewords words() const
+    Matrix matrix() const
     {
         Matrix m{size_of_side(symbol->width), {}};
         for (int y = 0; y < symbol->rows; y++)
             for (int x = 0; x < symbol->width; x++) m.dark.push_back(symbol->encoded_data[y][x / 8] >> (x % 8) & 1);
-        return data_of(m);
+        return m;
     }
+    Codewords words() const { return data_of(matrix()); }
+    Codewords list() const { return list_of(matrix()); }
 };
 
 // iec16022 writes on the standard error stream when a text doesn't fit.
@@ -146,18 +162,81 @@ template <bool all> struct IecMaker {
         }
         return false;
     }
-    Codewords words() const
+    Matrix matrix() const
     {
         Matrix m{size, {}};
         for (int y = size->side - 1; y >= 0; y--)  // its rows go upwards
             m.dark.insert(m.dark.end(), grid.get() + y * size->side, grid.get() + (y + 1) * size->side);
-        return data_of(m);
+        return m;
+    }
+    Codewords words() const { return data_of(matrix()); }
+    Codewords list() const { return list_of(matrix()); }
+};
+
+// ---- check words alone
+
+struct LibraryChecks {
+    const Codewords &data;
+    uint8_t made[DDOC_LIST];
+    size_t length = 0;
+    explicit LibraryChecks(const Codewords &d) : data(d) {}
+    void run() { length = ddoc_check_words(data.data(), data.size(), made, sizeof made).length; }
+    Codewords list() const { return Codewords(made, made + length); }
+};
+
+struct ZXingChecks {
+    ZXing::ByteArray made;
+    const ZXing::DataMatrix::SymbolInfo *info;
+    explicit ZXingChecks(const Codewords &d) : info(ZXing::DataMatrix::SymbolInfo::Lookup(int(d.size()), ZXing::DataMatrix::SymbolShape::SQUARE))
+    {
+        made.assign(d.begin(), d.end());
+        made.reserve(d.size() + size_of(d.size()).check);
+    }
+    void run() { ZXing::DataMatrix::EncodeECC200(made, *info); }
+    Codewords list() const { return made; }
+};
+
+// Its words come out last first. What it keeps between calls is made anew, as for each of its symbols.
+struct IecChecks {
+    Codewords data, checks;
+    explicit IecChecks(const Codewords &d) : data(d), checks(size_of(d.size()).check) {}
+    void run()
+    {
+        rs_init_gf(301);
+        rs_init_code(int(checks.size()), 1);
+        rs_encode(int(data.size()), data.data(), checks.data());
+    }
+    Codewords list() const
+    {
+        Codewords all = data;
+        all.insert(all.end(), checks.rbegin(), checks.rend());
+        return all;
     }
 };
 
+template <class Maker> Codewords checks_list(const Codewords &data)
+{
+    Maker maker(data);
+    maker.run();
+    return maker.list();
+}
+
+template <class Maker> double checks_seconds(const Codewords &data)
+{
+    Maker maker(data);
+    auto start = std::chrono::steady_clock::now();
+    maker.run();
+    return std::chrono::duration<double>(std::chrono::steady_clock::now() - start).count();
+}
+
+template <class Maker> constexpr CheckMaker check_maker(const char *name)
+{
+    return {name, checks_list<Maker>, checks_seconds<Maker>};
+}
+
 template <class Maker> constexpr Encoder encoder(const char *name, const char *level)
 {
-    return {name, level, words<Maker>, seconds<Maker>};
+    return {name, level, words<Maker>, list<Maker>, seconds<Maker>};
 }
 
 }  // namespace
@@ -170,3 +249,6 @@ const Encoder zint_minimal = encoder<ZintMaker<DATA_MODE>>("zint, minimal", "sym
 const Encoder zint_fast = encoder<ZintMaker<DATA_MODE | FAST_MODE>>("zint, fast", "symbol");
 const Encoder iec_all = encoder<IecMaker<true>>("iec16022", "symbol");
 const Encoder iec_two = encoder<IecMaker<false>>("iec16022, ASCII and C40", "symbol");
+const CheckMaker library_checks = check_maker<LibraryChecks>("ddoc_check_words");
+const CheckMaker zxing_checks = check_maker<ZXingChecks>("zxing-cpp");
+const CheckMaker iec_checks = check_maker<IecChecks>("iec16022");

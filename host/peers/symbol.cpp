@@ -1,5 +1,6 @@
 // Drawing of whole symbols; symbol.hpp says what for.
 #include "symbol.hpp"
+#include "../../include/ddoc.h"
 #include <array>
 #include <map>
 #include <stdexcept>
@@ -135,9 +136,19 @@ bool mapped(const Codewords &all, const Placement &p, int row, int column)
 
 }  // namespace
 
+Codewords printed(const Codewords &data)
+{
+    Codewords list(DDOC_LIST);
+    const ddoc_answer a = ddoc_check_words(data.data(), data.size(), list.data(), list.size());
+    if (a.number) throw std::runtime_error("the library refuses to print check words");
+    list.resize(a.length);
+    return list;
+}
+
 Codewords with_check_words(const Codewords &data, Checks checks)
 {
     const Size &s = size_of(data.size());
+    if (s.blocks == 1) return printed(data);
     Codewords all = data;
     all.resize(s.data + s.check);
     int shift = checks == Checks::go_on ? s.data % s.blocks : 0;
@@ -173,7 +184,7 @@ Matrix draw(const Codewords &data, Checks checks)
     return m;
 }
 
-Codewords data_of(const Matrix &m)
+Codewords list_of(const Matrix &m)
 {
     const int region = m.size->side / m.size->regions, inner = region - 2;
     const Placement &p = placement(m.size->side - 2 * m.size->regions);
@@ -183,6 +194,12 @@ Codewords data_of(const Matrix &m)
             const int b = p.bit[r * p.n + c];
             if (b != Placement::none && m.at(r / inner * region + r % inner + 1, c / inner * region + c % inner + 1)) all[b / 8] |= uint8_t(128 >> b % 8);
         }
+    return all;
+}
+
+Codewords data_of(const Matrix &m)
+{
+    Codewords all = list_of(m);
     all.resize(m.size->data);
     return all;
 }

@@ -1,6 +1,6 @@
 // Data codewords of a square ECC 200 symbol to its modules, after ISO/IEC 16022:
-// Reed-Solomon check words, module placement, finder patterns. It shares nothing with the
-// library or with the decoders that it draws symbols for.
+// Reed-Solomon check words, module placement, finder patterns. The check words of the sizes with a single block are the library's own;
+// else it shares nothing with the library or with the decoders that it draws symbols for.
 #pragma once
 #include <cstdint>
 #include <stddef.h>
@@ -29,10 +29,13 @@ struct Matrix {
 };
 
 const Size &size_of(size_t data_codewords);
+// The data codewords and behind them the check words that the library prints, for a size with a single block.
+Codewords printed(const Codewords &data);
 Codewords with_check_words(const Codewords &data, Checks checks);
 Matrix draw(const Codewords &data, Checks checks);
 
-// The data codewords of a whole symbol, as its modules have them; nothing is corrected.
+// The codewords of a whole symbol as its modules have them, all of them or the data; nothing is corrected.
+Codewords list_of(const Matrix &m);
 Codewords data_of(const Matrix &m);
 
 // Fills up to the capacity: 129, then the pads of the 253-state rule.

@@ -15,6 +15,8 @@ TEXT_ROOM = 1000
 LIST_ROOM = 64
 # A lent day file has 32,768 bytes or more.
 FILE_ROOM = 32768
+# Data and check words of the largest symbol with a single block.
+LONGEST_LIST = 242
 
 
 class Answer(ctypes.Structure):
@@ -74,6 +76,7 @@ class LibraryMissing(Exception):
 FUNCTIONS = {
     "ddoc_read_symbol": (Answer, [c_char_p, c_size_t, c_void_p, c_size_t]),
     "ddoc_write_symbol": (Answer, [c_char_p, c_size_t, c_size_t, c_void_p, c_size_t, c_void_p, c_size_t]),
+    "ddoc_check_words": (Answer, [c_char_p, c_size_t, c_void_p, c_size_t]),
     "ddoc_read_text": (Message, [c_char_p, c_size_t, c_void_p, c_size_t]),
     "ddoc_write_text": (
         Answer,
@@ -141,6 +144,20 @@ def write_symbol(text, largest=1558):
     answer, _, symbol = call_write_symbol(text, largest, bytes(2 * 8192), 8192, bytes(1558), 1558)
     accepted(answer)
     return symbol[: answer.length], answer.used
+
+
+def call_check_words(data, lent, room):
+    """Puts data and check words into the first `room` bytes of a copy of `lent`: the answer and the whole copy afterwards."""
+    words = lend(lent, room)
+    answer = function("ddoc_check_words")(bytes(data), len(data), words, room)
+    return answer, words.raw[: len(lent)]
+
+
+def check_words(data):
+    """The data codewords and behind them their check words, as bytes. Raises Refused."""
+    answer, words = call_check_words(data, bytes(LONGEST_LIST), LONGEST_LIST)
+    accepted(answer)
+    return words[: answer.length]
 
 
 def call_read_text(text, lent, room):

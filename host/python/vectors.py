@@ -3,7 +3,8 @@
 A file named .jsonl holds a case a line, {"op", "in", "out"}; any other holds arrays by kind, of cases of reading, {"codewords", ..},
 and of writing a symbol, {"text_hex", ..}, with what has to come back beside it.
 "op" is "read_symbol", with {"codewords", "lent"} in and {"text_hex"} with or without "before_pad" out; "write_symbol", with
-{"text_hex", "max_capacity", "work_len", "out_len"} in and {"symbol", "before_pad", "work"} out; "read_text", with
+{"text_hex", "max_capacity", "work_len", "out_len"} in and {"symbol", "before_pad", "work"} out; "check_words", with {"data", "out_len"}
+in and {"list"} out; "read_text", with
 {"text_hex", "fields_len"} in and {"header", "records", "signed", "signature_hex"} out, a record being [row, start, length, cut];
 "write_text", with {"header", "records", "slice_hex", "signature_hex", "out_len"} in and {"text_hex"} out; "conformity", with
 {"type", "records"} in and {"conforms"} out; or "day_file", with a file ("start_hex") in a slice of "slice_len" bytes, "behind" it one byte
@@ -21,7 +22,16 @@ import sys
 import ddoc
 
 DATA = pathlib.Path(__file__).resolve().parents[1] / "data"
-STORED = ["read_symbol.jsonl", "write_symbol.jsonl", "tricky.json", "read_text.jsonl", "write_text.jsonl", "conformity.jsonl", "day_file.jsonl"]
+STORED = [
+    "read_symbol.jsonl",
+    "write_symbol.jsonl",
+    "tricky.json",
+    "check_words.jsonl",
+    "read_text.jsonl",
+    "write_text.jsonl",
+    "conformity.jsonl",
+    "day_file.jsonl",
+]
 # Bytes behind what is lent that nobody may touch: five records.
 GUARD = 60
 RECORD = ctypes.sizeof(ddoc.Field)
@@ -128,6 +138,28 @@ class Writing:
         if work_after[2 * self.zeroed :] != work[2 * self.zeroed :]:
             found.append("entries of the work slice were touched")
         return found
+
+
+class CheckWords:
+    """A case of printing data codewords with their check words into a lent list."""
+
+    def __init__(self, given, out):
+        self.data = bytes(list(given["data"]))
+        self.room = int(given["out_len"])
+        if "refused" in out:
+            self.list, self.right = b"", refusal(out)
+            return
+        self.list = bytes(list(out["list"]))
+        self.right = {"number": 0, "place": 0, "length": len(self.list), "used": 0}
+
+    def __str__(self):
+        return f"data {list(self.data)}, room {self.room}"
+
+    def faults(self, dice):
+        """What is wrong with the library's answer, in words; none if it is right."""
+        lent = dice.randbytes(self.room + GUARD)
+        answer, after = ddoc.call_check_words(self.data, lent, self.room)
+        return differences(answer, self.right) + text_differences(self.list, after, lent)
 
 
 class TextReading:
@@ -284,6 +316,7 @@ class Steps:
 OPERATIONS = {
     "read_symbol": Reading,
     "write_symbol": Writing,
+    "check_words": CheckWords,
     "read_text": TextReading,
     "write_text": TextWriting,
     "conformity": Conformity,

@@ -12,7 +12,7 @@ pub struct Answer {
     pub number: usize,
     /// Refused: the index of the codeword, character or record, the place in the header, or the row for 29. Accepted: 0.
     pub place: usize,
-    /// Characters of text, codewords of a symbol written, or bytes of a day file; 0 if refused and for conformity.
+    /// Characters of text, codewords of a symbol written, words of a list with check words, or bytes of a day file; 0 if refused and for conformity.
     pub length: usize,
     /// Codewords before the first pad, all of them if there is no pad; the number of a record added; live records; 0 if refused and for texts.
     pub used: usize,
@@ -82,6 +82,7 @@ extern "C" {
         symbol: *mut u8,
         room: usize,
     ) -> Answer;
+    fn ddoc_check_words(data: *const u8, count: usize, list: *mut u8, room: usize) -> Answer;
     fn ddoc_read_text(text: *const u8, length: usize, fields: *mut Field, room: usize) -> Message;
     fn ddoc_write_text(
         header: Header,
@@ -125,6 +126,12 @@ pub fn write_symbol(text: &[u8], largest: usize, work: &mut [u16], symbol: &mut 
         let (lent, room) = (symbol.as_mut_ptr(), symbol.len());
         ddoc_write_symbol(text.as_ptr(), text.len(), largest, work.as_mut_ptr(), work.len(), lent, room)
     }
+}
+
+/// Puts the data codewords and behind them their check words into the lent list.
+/// Accepted: the first `length` bytes are the list, the others untouched. Refused: all are untouched.
+pub fn check_words(data: &[u8], list: &mut [u8]) -> Answer {
+    unsafe { ddoc_check_words(data.as_ptr(), data.len(), list.as_mut_ptr(), list.len()) }
 }
 
 /// Reads the text into the lent list, which needs 64 records or more (else refusal 6).

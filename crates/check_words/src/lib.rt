@@ -6,7 +6,7 @@ ghost use Prim.Native.Nat.{ℕ, _+_, _-_, _≤_, _<_};
 ghost use lib.ListN.{length, getD, take, drop, replicate};
 ghost use Rattle.codeword.specs.Sizes.{isCapacity};
 ghost use Rattle.refusal.specs.Numbers.{refusal};
-ghost use Rattle.galois.specs.Tables.{powers, logs, isLog, elementOf};
+ghost use Rattle.galois.specs.Tables.{powers, logs, elementOf};
 ghost use Rattle.check_words.specs.Sizes.{placeOf, checkCount, most-data};
 ghost use Rattle.check_words.specs.Generator.{coeffs, grow};
 ghost use Rattle.check_words.specs.Register.{feed, feeds, checkWords};
@@ -55,7 +55,7 @@ fn check_count(n: usize) -> usize
 // The generator's words for one root more, whose logarithm is m.
 fn grow_by(p: &[u8; 1021], l: &[u16; 256], g: &mut [u8], m: usize)
     requires { ⌜ (now p ≡ powers) × (now l ≡ logs) ⌝ }
-    requires { ⌜ isLog m ≡ true ⌝ }
+    requires { ⌜ m < 255 ⌝ }
     ensures { λ _. ⌜ now (g .exit) ≡ grow (elementOf m) 1 (now (g .entry)) ⌝ }
 {
     let n = g.len();

@@ -8,8 +8,11 @@ use Rattle.symbol_reader.specs.declared.SymbolRead.{SymbolRead}
 use Rattle.symbol_reader.specs.declared.SymbolRead.the-variants.{Text, Refused}
 use Rattle.symbol_reader.specs.Answers.{answered}
 use Rattle.ddoc.specs.declared.Answer.{Answer}
-use Rattle.ddoc.specs.Answers.{readingAnswer, writtenAnswer}
+use Rattle.ddoc.specs.Answers.{readingAnswer, listingAnswer, writtenAnswer}
 use Rattle.refusal.specs.Answers.{Answer as Outcome, good as written, refused as unwritten}
+use Rattle.check_words.specs.declared.Listing.{Listing}
+use Rattle.check_words.specs.declared.Listing.the-variants.{Words, Refused as Unlisted}
+use Rattle.check_words.specs.Answers.{answered as listed}
 use Rattle.text_writer.specs.declared.TextWritten.{TextWritten}
 use Rattle.text_writer.specs.declared.TextWritten.the-variants.{Written, Refused as Unwritten}
 use Rattle.text_writer.specs.Writing.{textWritten}
@@ -29,3 +32,11 @@ text-numbers (Unwritten r) = record { number = r .number; place = r .place; leng
 pub text-numbers-are : (o : Outcome (List ℕ)) → text-numbers (textWritten o) ≡ writtenAnswer o
 text-numbers-are (written t) = refl
 text-numbers-are (unwritten k p) = refl
+
+abbrev pub list-numbers : Listing → Answer
+list-numbers (Words m) = record { number = 0; place = 0; length = m; used = 0 }
+list-numbers (Unlisted r) = record { number = r .number; place = r .place; length = 0; used = 0 }
+
+pub list-numbers-are : (o : Outcome ℕ) → list-numbers (listed o) ≡ listingAnswer o
+list-numbers-are (written m) = refl
+list-numbers-are (unwritten k p) = refl

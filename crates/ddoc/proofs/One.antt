@@ -1,13 +1,17 @@
 -- What each exported function promises, of its answer and of what was lent, leaves one answer. All promises are equations but that of writing a
--- symbol, which speaks of the best symbol, which is one.
+-- symbol, which speaks of the best symbol, which is one, and that of printing check words, which speaks of the words that make the list right,
+-- which are one.
 -- Assumes nothing.
 use Prim.Native.Nat.{ℕ}
 use mathlib.Core.List.{List}
-use mathlib.Core.Path.{_≡_, ap, sym, _∙_}
+use mathlib.Core.Path.{_≡_, refl, ap, sym, _∙_}
 use lib.ListN.{length}
 use Rattle.codeword.specs.Reading.{readSymbol}
 use Rattle.symbol_reader.specs.Answers.{lentAfter}
 use Rattle.symbol_writer.proofs.Promise as symbol-writer
+use Rattle.galois.specs.Polynomial.{Bytes}
+use Rattle.check_words.specs.Answers.{wordsOf, Left}
+use Rattle.check_words.proofs.Promise as check-words-promise
 use Rattle.dictionary.specs.declared.Field.{Field}
 use Rattle.dictionary.specs.Rows.{rows}
 use Rattle.conformity.specs.Conformity.{conforms}
@@ -21,7 +25,7 @@ use Rattle.day_file.specs.Answers.{addedAnswer, withdrawnAnswer, placedAnswer}
 use Rattle.ddoc.specs.declared.Answer.{Answer}
 use Rattle.ddoc.specs.declared.Message.{Message}
 use Rattle.ddoc.specs.declared.Part.{Part}
-use Rattle.ddoc.specs.Answers.{readingAnswer, writingAnswer, Writes, conformityAnswer, messageAnswer, listAfter, writtenAnswer}
+use Rattle.ddoc.specs.Answers.{readingAnswer, writingAnswer, Writes, listingAnswer, conformityAnswer, messageAnswer, listAfter, writtenAnswer}
 use Rattle.squeeze.specs.Squeeze.{squeezing, squeezedSlice, oldsAfter, newsAfter}
 use Rattle.squeeze.specs.Answers.{squeezedAnswer}
 use Rattle.ddoc.specs.Files.{addedNumbers, withdrawnNumbers, partNumbers, squeezedNumbers}
@@ -37,6 +41,14 @@ pub write-symbol : (t : List ℕ) (largest work : ℕ) (old new new′ : List �
 write-symbol t largest work old new new′ r r′ p q =
     let e = symbol-writer.only-one t largest old work new new′ (p .answer) (q .answer) (p .promised) (q .promised) in
     (p .numbers ∙ ap writingAnswer (e .0) ∙ sym (q .numbers), e .1)
+
+abbrev ChecksWords : (ds old new : List ℕ) → Answer → Type 0
+ChecksWords ds old new r = (r ≡ listingAnswer (wordsOf (length ds) (length old))) × Left (wordsOf (length ds) (length old)) ds old new
+
+-- the data are a slice of bytes
+pub check-words : (ds old new new′ : List ℕ) (r r′ : Answer) → Bytes ds → ChecksWords ds old new r → ChecksWords ds old new′ r′ → (r ≡ r′) × (new ≡ new′)
+check-words ds old new new′ r r′ by p q =
+    (p .0 ∙ sym (q .0), check-words-promise.left-one (wordsOf (length ds) (length old)) ds old new new′ refl by (p .1) (q .1))
 
 abbrev ReadsText : (t : List ℕ) → (old new : List Field) → Message → Type 0
 ReadsText t old new r = (r ≡ messageAnswer (textAnswer (readText rows (length old) t))) × (new ≡ listAfter (readText rows (length old) t) old)

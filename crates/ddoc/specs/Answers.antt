@@ -35,6 +35,10 @@ pub record Writes (t : List ℕ) (largest work : ℕ) (old new : List ℕ) (r : 
   pub numbers : r ≡ writingAnswer answer
   pub promised : Promised t largest work old new answer
 
+abbrev pub listingAnswer : Says ℕ → Answer
+listingAnswer (accepts m) = record { number = 0; place = 0; length = m; used = 0 }
+listingAnswer (refuses k p) = record { number = k; place = p; length = 0; used = 0 }
+
 abbrev pub conformityAnswer : Conformity → Answer
 conformityAnswer Conforms = record { number = 0; place = 0; length = 0; used = 0 }
 conformityAnswer (NotConforming r) = record { number = r .number; place = r .place; length = 0; used = 0 }

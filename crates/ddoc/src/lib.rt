@@ -4,18 +4,20 @@ ghost use lib.ListN.{length};
 ghost use Rattle.codeword.specs.Reading.{readSymbol};
 ghost use Rattle.symbol_reader.specs.Answers.{lentAfter};
 ghost use Rattle.symbol_writer.specs.Promise.{workLeft};
+ghost use Rattle.check_words.specs.Answers.{wordsOf, Left};
 ghost use Rattle.conformity.specs.Conformity.{conforms};
 ghost use Rattle.conformity.specs.Noted.{answered};
 ghost use Rattle.dictionary.specs.Rows.{rows};
 ghost use Rattle.text.specs.Text.{readText, writeText};
 ghost use Rattle.text_reader.specs.Answers.{textAnswer};
 ghost use Rattle.text_writer.specs.Writing.{writeFirst, writtenOver};
-ghost use Rattle.ddoc.specs.Answers.{readingAnswer, Writes, conformityAnswer, refusalOf, messageAnswer, wholeAnswer, listAfter, writtenAnswer};
+ghost use Rattle.ddoc.specs.Answers.{readingAnswer, Writes, listingAnswer, conformityAnswer, refusalOf, messageAnswer, wholeAnswer, listAfter, writtenAnswer};
 ghost use Rattle.day_file.specs.Promise.{adding, withdrawing, placing, sliceAfter};
 ghost use Rattle.day_file.specs.Answers.{addedAnswer, withdrawnAnswer, placedAnswer};
 ghost use Rattle.squeeze.specs.Squeeze.{squeezing, squeezedSlice, oldsAfter, newsAfter};
 ghost use Rattle.squeeze.specs.Answers.{squeezedAnswer};
 ghost use Rattle.ddoc.specs.Files.{addedNumbers, withdrawnNumbers, partNumbers, squeezedNumbers};
+use check_words::Listing;
 use conformity::Conformity;
 use day_file::Added;
 use day_file::Placed;
@@ -82,6 +84,29 @@ pub extern "C" fn ddoc_write_symbol(
             used: used,
         },
         SymbolWritten::Refused(r) => Answer {
+            number: r.number as usize,
+            place: r.place,
+            length: 0,
+            used: 0,
+        },
+    }
+}
+
+// The answer's length is that of the list: the data and the check words.
+#[no_mangle]
+pub extern "C" fn ddoc_check_words(codewords: &[u8], list: &mut [u8]) -> Answer
+    ensures answer { λ r. ⌜ r ≡ listingAnswer (wordsOf (length (now (codewords .entry))) (length (now (list .entry)))) ⌝ }
+    ensures lent { λ r. ⌜ Left (wordsOf (length (now (codewords .entry))) (length (now (list .entry)))) (now (codewords .entry)) (now (list .entry)) (now (list .exit)) ⌝ }
+{
+    let answer = check_words::check_words(codewords, list);
+    match answer {
+        Listing::Words(n) => Answer {
+            number: 0,
+            place: 0,
+            length: n,
+            used: 0,
+        },
+        Listing::Refused(r) => Answer {
             number: r.number as usize,
             place: r.place,
             length: 0,

@@ -8,4 +8,5 @@ pub mod Heads
 pub mod Whole
 pub mod There
 pub mod Keeps
+pub mod Printed
 pub mod Starred

@@ -6,7 +6,7 @@ use mathlib.Core.Path.{_∙_, _≡_, ap, refl, sym}
 use native.Mathlib.Omega.{arith}
 use lib.ListN.{length, replicate}
 use borrow.Author.Needs.{needs}
-use Rattle.galois.proofs.Powers.{power-is, log-below}
+use Rattle.galois.proofs.Powers.{power-is}
 use Rattle.check_words.specs.Generator.{coeffs}
 use Rattle.check_words.proofs.Growing.{gen-end, gen-next, gen-start}
 use Rattle.check_words.proofs.generate.Statement.{statement}
@@ -30,7 +30,7 @@ grow-by-requires c κs =
     let at-clear = at-loop .before .before .before in
     let at-start = at-clear .before .before .before in
     let few : at-loop .loop .j < 254 = omega (arith, at-clear .clear .kept .0, at-start .pre .1) in
-    (at-start .pre .0, log-below _ (omega (arith, few)))
+    (at-start .pre .0, omega (arith, few))
 
 loop-again : tie.Need-loop-again Inv-loop μ-loop
 loop-again c =

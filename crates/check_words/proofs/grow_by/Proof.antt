@@ -9,6 +9,7 @@ use lib.Bits.{bitXor}
 use lib.ListN.{drop, getD, length, length-set, set, take}
 use borrow.Author.Needs.{needs}
 use Rattle.galois.specs.Tables.{elementOf}
+use Rattle.galois.proofs.Powers.{log-below}
 use Rattle.galois.proofs.Fills.{fill-end, fill-step}
 use Rattle.check_words.specs.Generator.{grow}
 use Rattle.check_words.proofs.Growing.{before-next, grow-word, length-grow, unread}
@@ -20,6 +21,11 @@ Inv-loop p l g₀ m n b₀ i₀ g b i = (i ≤ n) × (length g ≡ n) × (b ≡ 
 
 abbrev μ-loop : tie.MeasureT-loop
 μ-loop p l g₀ m n b₀ i₀ g b i = n - i
+
+times-requires : tie.Need-times-requires Inv-loop μ-loop
+times-requires c κs =
+    let at-start = c .before .before .before .before in
+    (at-start .pre .0, log-below (at-start .args .m) (at-start .pre .1))
 
 loop-again : tie.Need-loop-again Inv-loop μ-loop
 loop-again c =
@@ -54,7 +60,7 @@ grow-by-spec =
     μ-loop
     (λ c. search needs)
     (λ c. search needs)
-    (λ c κs. search needs)
+    times-requires
     (λ c. search needs)
     (λ c. search needs)
     (λ c. search needs)
