@@ -142,6 +142,18 @@ ddoc_part ddoc_day_fetch(const uint8_t *file, size_t room, size_t length, size_t
 ddoc_answer ddoc_day_squeeze(uint8_t *file, size_t room, size_t length, uint32_t *old_numbers, size_t old_room,
                              uint32_t *new_numbers, size_t new_room);
 
+/* The texts of day files, counted: by the types that conformity covers, all other types, and refusals by number. 1,048 bytes. */
+typedef struct {
+    uint32_t types[5]; /* 00, 01, 02, B0, B1 */
+    uint32_t other;
+    uint32_t refused[256];
+} ddoc_tally;
+
+/* Reads each live text of the day file, which is all of the slice, and counts it in the lent tally: accepted under its type, whether it conforms or
+ * not, else under its refusal's number (5 for a text of more than 1,000 bytes). The answer's `length` and `used` are 0. Refused: 35 as for every
+ * day file, but no slice is too short; 38 when a count would pass 4,294,967,295; the tally is as it was. */
+ddoc_answer ddoc_tally_add(ddoc_tally *tally, const uint8_t *file, size_t length);
+
 #ifdef __cplusplus
 }
 #endif

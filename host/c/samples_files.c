@@ -83,6 +83,27 @@ static void squeezed(void) {
     answered("no slice: refused 6", ddoc_day_squeeze(NULL, 0, 8, NULL, 0, NULL, 0), 6, 0, 0);
 }
 
+/* The live texts of `three`, "AB" and "", are no texts of a 2D-DOC: both headers are too short (10). The tally stands at an odd address. */
+static void tallied(void) {
+    static uint8_t room[sizeof(ddoc_tally) + 2];
+    static ddoc_tally tally, expected;
+    ddoc_tally *odd = (ddoc_tally *)(void *)(room + 1);
+    start(three, sizeof three);
+    expected.refused[10] = 2;
+    answered("two live texts counted", ddoc_tally_add(odd, lent, sizeof three), 0, 0, 0);
+    told("under their refusal", memcmp(odd, &expected, sizeof expected) == 0 && room[0] == 0 && room[sizeof room - 1] == 0);
+    answered("no file: refused 35", ddoc_tally_add(odd, NULL, 0), 35, 0, 0);
+    answered("a file of 32,769 bytes: refused 35", ddoc_tally_add(odd, lent, DDOC_FILE + 1), 35, 0, 0);
+    told("the tally is as it was", memcmp(odd, &expected, sizeof expected) == 0);
+    tally.refused[10] = expected.refused[10] = UINT32_MAX - 1;
+    answered("a count that would pass its greatest: refused 38", ddoc_tally_add(&tally, lent, sizeof three), 38, 0, 0);
+    told("the first text is not counted either", memcmp(&tally, &expected, sizeof expected) == 0);
+    start(one, sizeof one);
+    expected.refused[10] = UINT32_MAX;
+    answered("the greatest count", ddoc_tally_add(&tally, lent, 17), 0, 0, 0);
+    told("is reached", memcmp(&tally, &expected, sizeof expected) == 0);
+}
+
 static void edges(void) {
     static const uint8_t long_text[1001];
     start(two, sizeof two);
@@ -101,6 +122,7 @@ static void edges(void) {
 int main(void) {
     sequence();
     squeezed();
+    tallied();
     edges();
     printf("%u passed, %u failed\n", passed, failed);
     return failed != 0;

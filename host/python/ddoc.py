@@ -59,6 +59,18 @@ class Part(ctypes.Structure):
     _fields_ = [(name, c_size_t) for name in ("number", "place", "which", "start", "length")]
 
 
+class Tally(ctypes.Structure):
+    """Texts counted: by the types 00, 01, 02, B0, B1, all other types, and refusals by number."""
+
+    _fields_ = [("types", c_uint32 * 5), ("other", c_uint32), ("refused", c_uint32 * 256)]
+
+    def lines(self):
+        """What the program `week` prints of it."""
+        named = [(f"type {name}", count) for name, count in zip(("00", "01", "02", "B0", "B1"), self.types)]
+        named += [("other", self.other)] + [(f"refused {number}", count) for number, count in enumerate(self.refused)]
+        return [f"{name} {count}" for name, count in named if count > 0]
+
+
 class Refused(Exception):
     """A refusal of document 01 or 02: its number and its place."""
 
@@ -87,6 +99,7 @@ FUNCTIONS = {
     "ddoc_day_withdraw": (Answer, [c_void_p, c_size_t, c_size_t, c_size_t]),
     "ddoc_day_fetch": (Part, [c_void_p, c_size_t, c_size_t, c_size_t]),
     "ddoc_day_squeeze": (Answer, [c_void_p, c_size_t, c_size_t, c_void_p, c_size_t, c_void_p, c_size_t]),
+    "ddoc_tally_add": (Answer, [c_void_p, c_char_p, c_size_t]),
 }
 
 _library = None
@@ -254,3 +267,8 @@ class DayFile:
         accepted(answer)
         self.length = answer.length
         return list(olds[: answer.used])
+
+
+def tally_add(tally, file):
+    """Counts the live texts of a day file. Raises Refused, and then the tally is as it was."""
+    accepted(function("ddoc_tally_add")(ctypes.byref(tally), bytes(file), len(file)))

@@ -71,6 +71,15 @@ pub struct Part {
     pub length: usize,
 }
 
+/// The texts of day files, counted: by the types that conformity covers (00, 01, 02, B0, B1), all other types, and refusals by number.
+#[repr(C)]
+#[derive(Clone, Copy, Debug, PartialEq, Eq)]
+pub struct Tally {
+    pub types: [u32; 5],
+    pub other: u32,
+    pub refused: [u32; 256],
+}
+
 extern "C" {
     fn ddoc_read_symbol(codewords: *const u8, count: usize, text: *mut u8, room: usize) -> Answer;
     fn ddoc_write_symbol(
@@ -108,6 +117,7 @@ extern "C" {
         new_numbers: *mut u32,
         new_room: usize,
     ) -> Answer;
+    fn ddoc_tally_add(tally: *mut Tally, file: *const u8, length: usize) -> Answer;
 }
 
 // Slices cannot overlap where one of them is written to, and the library keeps no pointer.
@@ -187,4 +197,9 @@ pub fn day_squeeze(file: &mut [u8], length: usize, old_numbers: &mut [u32], new_
         let (news, new_room) = (new_numbers.as_mut_ptr(), new_numbers.len());
         ddoc_day_squeeze(file.as_mut_ptr(), file.len(), length, olds, old_room, news, new_room)
     }
+}
+
+/// Reads each live text of the day file, which is all of `file`, and counts it. Refused (35, 38): the tally is as it was.
+pub fn tally_add(tally: &mut Tally, file: &[u8]) -> Answer {
+    unsafe { ddoc_tally_add(tally, file.as_ptr(), file.len()) }
 }

@@ -36,7 +36,7 @@ const MISSING: u8 = 2;
 const THERE: u8 = 3;
 
 // The types covered, numbered: 00, 01, 02, B0, B1; 5 for any other.
-fn column_of(a: u8, b: u8) -> usize
+pub fn column_of(a: u8, b: u8) -> usize
     ensures { λ r. ⌜ r ≡ columnOf a b ⌝ }
 {
     if a == 48 {

@@ -28,7 +28,10 @@ use Rattle.ddoc.specs.declared.Part.{Part}
 use Rattle.ddoc.specs.Answers.{readingAnswer, writingAnswer, Writes, listingAnswer, conformityAnswer, messageAnswer, listAfter, writtenAnswer}
 use Rattle.squeeze.specs.Squeeze.{squeezing, squeezedSlice, oldsAfter, newsAfter}
 use Rattle.squeeze.specs.Answers.{squeezedAnswer}
-use Rattle.ddoc.specs.Files.{addedNumbers, withdrawnNumbers, partNumbers, squeezedNumbers}
+use Rattle.tally.specs.Counting.{counting}
+use Rattle.tally.specs.Answers.{countedAnswer}
+use Rattle.tally.specs.declared.Tally.{Tally}
+use Rattle.ddoc.specs.Files.{addedNumbers, withdrawnNumbers, partNumbers, squeezedNumbers, talliedNumbers}
 
 abbrev ReadsSymbol : (codewords old new : List ℕ) → Answer → Type 0
 ReadsSymbol ws old new r = (r ≡ readingAnswer (readSymbol ws (length old))) × (new ≡ lentAfter (readSymbol ws (length old)) old)
@@ -95,3 +98,9 @@ pub record Squeezes (file : List ℕ) (len : ℕ) (olds news file′ olds′ new
 pub day-squeeze : (f : List ℕ) (len : ℕ) (os ns f₁ os₁ ns₁ f₂ os₂ ns₂ : List ℕ) (r₁ r₂ : Answer)
     → Squeezes f len os ns f₁ os₁ ns₁ r₁ → Squeezes f len os ns f₂ os₂ ns₂ r₂ → (r₁ ≡ r₂) × (f₁ ≡ f₂) × (os₁ ≡ os₂) × (ns₁ ≡ ns₂)
 day-squeeze f len os ns f₁ os₁ ns₁ f₂ os₂ ns₂ r₁ r₂ p q = (p .answer ∙ sym (q .answer), p .lent ∙ sym (q .lent), p .old ∙ sym (q .old), p .new ∙ sym (q .new))
+
+abbrev Tallies : (old : Tally) (file : List ℕ) (new : Tally) → Answer → Type 0
+Tallies old f new r = (r ≡ talliedNumbers (countedAnswer (counting f old) old) .answer) × (new ≡ talliedNumbers (countedAnswer (counting f old) old) .tally)
+
+pub tally-add : (old : Tally) (f : List ℕ) (new new′ : Tally) (r r′ : Answer) → Tallies old f new r → Tallies old f new′ r′ → (r ≡ r′) × (new ≡ new′)
+tally-add old f new new′ r r′ p q = (p .0 ∙ sym (q .0), p .1 ∙ sym (q .1))

@@ -10,6 +10,8 @@ use Rattle.squeeze.specs.declared.Squeezed.{Squeezed}
 use Rattle.squeeze.specs.declared.Squeezed.the-variants.{Done as Squeezes, NotDone}
 use Rattle.ddoc.specs.declared.Answer.{Answer}
 use Rattle.ddoc.specs.declared.Part.{Part}
+use Rattle.ddoc.specs.declared.Tallied.{Tallied}
+use Rattle.tally.specs.declared.Counted.{Counted}
 
 -- the file's length now, and the number of the record added
 abbrev pub addedNumbers : Added → Answer
@@ -30,3 +32,7 @@ partNumbers (Nowhere r) = record { number = r .number; place = r .place; which =
 abbrev pub squeezedNumbers : Squeezed → Answer
 squeezedNumbers (Squeezes n size) = record { number = 0; place = 0; length = size; used = n }
 squeezedNumbers (NotDone r) = record { number = r .number; place = r .place; length = 0; used = 0 }
+
+-- 0 or the number of a refusal, whose place is 0, and the tally
+abbrev pub talliedNumbers : Counted → Tallied
+talliedNumbers c = record { answer = record { number = c .number; place = 0; length = 0; used = 0 }; tally = c .tally }

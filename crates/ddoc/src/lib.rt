@@ -16,7 +16,9 @@ ghost use Rattle.day_file.specs.Promise.{adding, withdrawing, placing, sliceAft
 ghost use Rattle.day_file.specs.Answers.{addedAnswer, withdrawnAnswer, placedAnswer};
 ghost use Rattle.squeeze.specs.Squeeze.{squeezing, squeezedSlice, oldsAfter, newsAfter};
 ghost use Rattle.squeeze.specs.Answers.{squeezedAnswer};
-ghost use Rattle.ddoc.specs.Files.{addedNumbers, withdrawnNumbers, partNumbers, squeezedNumbers};
+ghost use Rattle.tally.specs.Counting.{counting};
+ghost use Rattle.tally.specs.Answers.{countedAnswer};
+ghost use Rattle.ddoc.specs.Files.{addedNumbers, withdrawnNumbers, partNumbers, squeezedNumbers, talliedNumbers};
 use check_words::Listing;
 use conformity::Conformity;
 use day_file::Added;
@@ -29,6 +31,7 @@ use refusal::Refusal;
 use squeeze::Squeezed;
 use symbol_reader::SymbolRead;
 use symbol_writer::SymbolWritten;
+use tally::Tally;
 use text_reader::Outcome;
 use text_reader::TextRead;
 use text_writer::TextWritten;
@@ -367,4 +370,37 @@ pub extern "C" fn ddoc_day_squeeze(
             used: 0,
         },
     }
+}
+
+// The tally with a file by value, and the answer as numbers, so that nothing but storing it is left for whoever holds the lent tally.
+struct Tallied {
+    answer: Answer,
+    tally: Tally,
+}
+
+fn count_numbers(t: Tally, file: &[u8]) -> Tallied
+    requires { ⌜ length (t .counts) ≡ 262 ⌝ }
+    ensures { λ r. ⌜ r ≡ talliedNumbers (countedAnswer (counting (now (file .entry)) t) t) ⌝ }
+{
+    let c = tally::count_file(t, file);
+    let tally = c.tally;
+    Tallied {
+        answer: Answer {
+            number: c.number as usize,
+            place: 0,
+            length: 0,
+            used: 0,
+        },
+        tally: tally,
+    }
+}
+
+// The tally is lent and added to in place; refused, it is as it was.
+#[no_mangle]
+pub extern "C" fn ddoc_tally_add(t: &mut Tally, file: &[u8]) -> Answer
+    ensures { λ r. ⌜ (r ≡ talliedNumbers (countedAnswer (counting (now (file .entry)) (now (t .entry))) (now (t .entry))) .answer) × (now (t .exit) ≡ talliedNumbers (countedAnswer (counting (now (file .entry)) (now (t .entry))) (now (t .entry))) .tally) ⌝ }
+{
+    let c = count_numbers(*t, file);
+    *t = c.tally;
+    c.answer
 }
