@@ -12,7 +12,7 @@ mod run;
 
 use lists::Dice;
 use paper_check::SIZES;
-use run::{Run, Tally as _};
+use run::Run;
 
 const USUAL_SEED: u64 = 20_261_116;
 /// Bytes before and behind the lent list that nobody may touch.
@@ -137,6 +137,30 @@ fn printed(run: &mut Run<Bench>) {
     });
 }
 
+/// Document 02, K13: check words add up.
+fn combined(run: &mut Run<Bench>) {
+    run.group("two lists of each size combined, and patched twice", |dice, bench| {
+        for (count, checks) in SIZES {
+            for _ in 0..500 {
+                let (a, b) = (lists::noise(dice, count), lists::noise(dice, count));
+                let [first, second, both] = [&a, &b, &sum(&a, &b)].map(|data| {
+                    let mut list = vec![0; count + checks];
+                    let answer = ddoc::check_words(data, &mut list);
+                    assert_eq!(answer.number, 0, "a size is refused");
+                    list
+                });
+                bench.fail_if(sum(&first, &second) != both, "the sum of two lists is not the list of the sum");
+                bench.fail_if(sum(&both, &second) != first, "patching twice does not restore the first");
+            }
+        }
+    });
+}
+
+/// The exclusive or, word by word.
+fn sum(a: &[u8], b: &[u8]) -> Vec<u8> {
+    a.iter().zip(b).map(|(x, y)| x ^ y).collect()
+}
+
 fn refusals(run: &mut Run<Bench>) {
     run.group("every count up to 1,700, with room and without", |dice, bench| {
         for count in (0..1_700).chain([5_000]) {
@@ -174,6 +198,7 @@ fn refusals(run: &mut Run<Bench>) {
 fn main() {
     let mut run = Run::new(run::given_seed("checking", USUAL_SEED), |_| Bench::default());
     printed(&mut run);
+    combined(&mut run);
     refusals(&mut run);
     let all = run.all.clone();
     run.report([0, 1, 6, 32].iter().all(|&number| all.answers[number] >= 30), "every answer occurs often", &all);

@@ -6,3 +6,4 @@ mod Growing
 pub mod Sizes
 pub mod Answers
 pub mod Promise
+pub mod Patching

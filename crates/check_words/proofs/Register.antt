@@ -65,13 +65,13 @@ module _ (x : ℕ) (g : List ℕ) (z : horner x 1 g ≡ 0) where
       (value-feed r d l hr (hd .0) ∙ ap (λ (y : ℕ). y ⊗ x ⊕ up x (length g) d) e
       ∙ ap (λ (y : ℕ). y ⊕ up x (length g) d) (sym (up-⊗-r x (length g) x v)) ∙ sym (up-⊕ x (length g) (v ⊗ x) d))
 
--- ---- the list of data and checkWords words is right, whatever the number of checkWords words
+-- ---- the list of data and check words is right, whatever the number of check words
 length-feeds : (g r ds : List ℕ) → length r ≡ length g → length (feeds g r ds) ≡ length g
 unfolding feeds
 length-feeds g r [] l = l
 length-feeds g r (d ∷ ds) l = length-feeds g (feed g r d) ds (length-feed g r d l)
 
-zeros-fit : (k : ℕ) → length {A = ℕ} (replicate k 0) ≡ length (coeffs k)
+pub zeros-fit : (k : ℕ) → length {A = ℕ} (replicate k 0) ≡ length (coeffs k)
 zeros-fit k = length-replicate {A = ℕ} k 0 ∙ sym (length-coeffs k)
 
 pub length-check : (k : ℕ) (ds : List ℕ) → length (checkWords k ds) ≡ k

@@ -15,6 +15,6 @@ unfoldable pub feeds : List ℕ → List ℕ → List ℕ → List ℕ
 feeds g r [] = r
 feeds g r (d ∷ ds) = feeds g (feed g r d) ds
 
--- the k checkWords words
+-- the k check words
 abbrev pub checkWords : ℕ → List ℕ → List ℕ
 checkWords k ds = feeds (coeffs k) (replicate k 0) ds
