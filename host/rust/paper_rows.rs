@@ -12,7 +12,7 @@ pub enum Characters {
 }
 
 impl Characters {
-    /// "Numérique is 0-9. Alphabétique is A-Z and space. Alphanumérique is characters 32 to 95."
+    /// The characters of each type.
     pub fn hold(self, character: u8) -> bool {
         match self {
             Numeric => matches!(character, b'0'..=b'9'),
@@ -22,7 +22,7 @@ impl Characters {
     }
 }
 
-/// "A row gives least length, greatest length or none, and type"
+/// A row: the lengths of its data, and their type.
 #[derive(Clone, Copy, Debug)]
 pub struct Row {
     pub identifier: [u8; 2],
@@ -32,7 +32,7 @@ pub struct Row {
 }
 
 impl Row {
-    /// "Fixed length (least equals greatest)"
+    /// Fixed length: least and greatest are one.
     pub fn is_fixed(&self) -> bool {
         self.greatest == Some(self.least)
     }
@@ -182,7 +182,7 @@ pub struct Table {
     pub interchangeable: &'static [(&'static str, &'static [&'static [&'static str]])],
 }
 
-/// "Conformity covers the types heading the columns of section 8.1, and B0 and B1 of section 8.7."
+/// The types that conformity covers, as the columns of sections 8.1 and 8.7 have them.
 pub static TABLES: [Table; 2] = [HOMES, STUDIES];
 
 /// Section 8.1. "La donnée 10 et les données (11, 12, 13) sont interchangeables."

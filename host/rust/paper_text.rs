@@ -5,10 +5,10 @@ use crate::ddoc::{Field, Header};
 use crate::paper::{Refusal, LONGEST_TEXT};
 use crate::paper_rows::{row_of, Row, Table, ROWS, ROW_COUNT, TABLES};
 
-/// "A message has at most 64 fields."
+/// Sizes: how many fields a message may have.
 pub const MOST_FIELDS: usize = 64;
 
-// "Numbers that come back"
+// Numbers that come back.
 const TOO_LONG: usize = 5;
 const ROOM_TOO_SHORT: usize = 6;
 const HEADER_TOO_SHORT: usize = 10;
@@ -34,10 +34,10 @@ const MISSING: usize = 29;
 const NOT_PERMITTED: usize = 30;
 const NO_SUCH_RECORD: usize = 31;
 
-/// "the data end at a 29, or at a 30 that marks them cut short"
+/// The text: what ends variable data, and what cuts them short.
 const SEPARATOR: u8 = 29;
 const CUT_MARK: u8 = 30;
-/// "Message zone: up to the first character 31."
+/// The text: what ends the zone.
 const END_OF_ZONE: u8 = 31;
 
 #[derive(Clone, Debug, PartialEq, Eq)]
@@ -45,7 +45,7 @@ pub struct Message {
     pub header: Header,
     pub fields: Vec<Field>,
     pub signature: Vec<u8>,
-    /// "header and zone, without the 31"
+    /// Header and zone, up to the mark.
     pub signed_length: usize,
 }
 
@@ -53,8 +53,7 @@ fn refuse<T>(number: usize, place: usize) -> Result<T, Refusal> {
     Err(Refusal { number, place })
 }
 
-/// "22 characters in version 02. Version 03 adds the perimeter, 01, making 24. Version 04 adds a country, two of A-Z,
-/// after it, making 26."
+/// The text: how long a header is. Each version has one part more than the one before.
 fn header_length(version: [u8; 2]) -> Option<usize> {
     match &version {
         b"02" => Some(22),
@@ -64,7 +63,7 @@ fn header_length(version: [u8; 2]) -> Option<usize> {
     }
 }
 
-/// "Text reading: 5 (place 1,000), 6, 10 .., header left to right, 15 .., then fields left to right: .. Then signature"
+/// The order of text reading: 5, 6, the header, 15, the fields, the signature.
 pub fn read_text(text: &[u8], room: usize) -> Result<Message, Refusal> {
     read_text_by(&ROWS, text, room)
 }
@@ -74,12 +73,12 @@ pub fn read_text_by(rows: &[Row], text: &[u8], room: usize) -> Result<Message, R
     if text.len() > LONGEST_TEXT {
         return refuse(TOO_LONG, LONGEST_TEXT);
     }
-    // "or a lent list of 64 field records or more"
+    // The lent list has room for all the fields that a message may have.
     if room < MOST_FIELDS {
         return refuse(ROOM_TOO_SHORT, 0);
     }
     let (header, zone_start) = read_header(text)?;
-    // "15 (place: the length)"
+    // 15 has the place behind the text.
     let zone_end = match text[zone_start..].iter().position(|&character| character == END_OF_ZONE) {
         Some(at) => zone_start + at,
         None => return refuse(NO_MARK, text.len()),
@@ -89,8 +88,8 @@ pub fn read_text_by(rows: &[Row], text: &[u8], room: usize) -> Result<Message, R
     Ok(Message { header, fields, signature, signed_length: zone_end })
 }
 
-/// "10 below 22 characters (place: the length), 11, 12, 10 for the version's length, header left to right";
-/// "Refusal 11 has place 0, 12 place 2"
+/// 10 for any version, 11, 12, 10 for this one, then the characters; 11 is given at the front,
+/// 12 at the version.
 fn read_header(text: &[u8]) -> Result<(Header, usize), Refusal> {
     if text.len() < 22 {
         return refuse(HEADER_TOO_SHORT, text.len());
@@ -123,23 +122,23 @@ fn read_header(text: &[u8]) -> Result<(Header, usize), Refusal> {
     Ok((header, length))
 }
 
-/// The header's characters behind the version, "left to right"; "14 place 22 (any perimeter but 01, also one with a
-/// wrong character), 13 the character's place".
+/// The header's characters behind the version, in their order. A wrong perimeter, whatever is wrong in it, is 14 at its
+/// first place, and comes before a wrong country.
 fn check_header(header: &[u8]) -> Result<(), Refusal> {
     for place in 4..header.len() {
         let character = header[place];
         let letter = matches!(character, b'A'..=b'Z');
         let digit = matches!(character, b'0'..=b'9');
         let right = match place {
-            // "authority (4: two of A-Z, two of A-Z 0-9); certificate (4 of A-Z 0-9)"
+            // Authority, its first two characters letters, and certificate.
             4 | 5 => letter,
             6..=11 => letter || digit,
-            // "issue day and signing day (4 upper-case hex digits each ..); type (2 of A-Z 0-9)"
+            // The two days, in hexadecimal digits with capital letters, and the type.
             12..=19 => digit || matches!(character, b'A'..=b'F'),
             20 | 21 => letter || digit,
             22 | 23 if header[22..24] != *b"01" => return refuse(WRONG_PERIMETER, 22),
             22 | 23 => true,
-            // "a country, two of A-Z"
+            // The country.
             _ => letter,
         };
         if !right {
@@ -154,8 +153,8 @@ fn day(digits: &[u8]) -> u16 {
     digits.iter().fold(0, |sum, digit| 16 * sum + (*digit as char).to_digit(16).unwrap_or(0) as u16)
 }
 
-/// "then fields left to right: 17 for half an identifier, 16, 20, 27, the data left to right .., 19. The place is the
-/// identifier's"
+/// The fields one by one: 17 for half an identifier, 16, 20, 27, the data, 19, each with the place of the identifier
+/// but for 18.
 fn read_fields(rows: &[Row], text: &[u8], zone_start: usize) -> Result<Vec<Field>, Refusal> {
     let mut fields: Vec<Field> = Vec::new();
     let mut place = zone_start;
@@ -167,7 +166,7 @@ fn read_fields(rows: &[Row], text: &[u8], zone_start: usize) -> Result<Vec<Field
             Some(row) => row,
             None => return refuse(UNKNOWN_IDENTIFIER, place),
         };
-        // "An identifier stands once at most."
+        // No identifier twice.
         if fields.iter().any(|field| usize::from(field.row) == row) {
             return refuse(REPEATED, place);
         }
@@ -189,14 +188,14 @@ struct Data {
     behind: usize,
 }
 
-/// "the data left to right (18, or 17 at the zone's end), 19"; the text ends with the zone.
+/// The data of one field: 18 where the first wrong character stands, 17 where the zone ends first; the text ends with the zone.
 fn read_data(row: &Row, text: &[u8], start: usize, identifier: usize) -> Result<Data, Refusal> {
     let mut place = start;
     loop {
         let length = place - start;
         if Some(length) == row.greatest {
-            // "Fixed length: that many characters, no separator." "When they reach the greatest length a 30 directly
-            // behind is taken as the mark; otherwise nothing separates them from the next field."
+            // Full data end by themselves. Of variable data that are full a 30 still says that they were cut; fixed data
+            // have no mark at all.
             let cut = !row.is_fixed() && text.get(place) == Some(&CUT_MARK);
             return Ok(Data { length, cut, behind: if cut { place + 1 } else { place } });
         }
@@ -204,9 +203,9 @@ fn read_data(row: &Row, text: &[u8], start: usize, identifier: usize) -> Result<
             Some(&character) => character,
             None => return refuse(ZONE_ENDS, identifier),
         };
-        // "A separator in fixed data is 18."
+        // No mark can stand in fixed data.
         if !row.is_fixed() && (character == SEPARATOR || character == CUT_MARK) {
-            // "The least length holds for cut data too."
+            // Cut data may be too short as well.
             if length < row.least {
                 return refuse(DATA_TOO_SHORT, identifier);
             }
@@ -219,18 +218,18 @@ fn read_data(row: &Row, text: &[u8], start: usize, identifier: usize) -> Result<
     }
 }
 
-/// "RFC 4648 Base32 without padding"
+/// The alphabet of RFC 4648.
 const BASE32: &[u8; 32] = b"ABCDEFGHIJKLMNOPQRSTUVWXYZ234567";
 
-/// "for 64, 96 or 132 bytes: 103, 154 or 212 characters"
+/// The lengths of a signature, in bytes and in characters.
 const SIGNATURES: [(usize, usize); 3] = [(64, 103), (96, 154), (132, 212)];
 
-/// "Then signature characters left to right (22 or 24), 21 and 23 with the place after the 31."
+/// The signature: its characters one by one, then its length, then its spare bits, the last two with the place behind the mark.
 fn read_signature(header: &Header, text: &[u8], start: usize) -> Result<Vec<u8>, Refusal> {
     let mut bytes = Vec::new();
     let mut bits = Bits { value: 0, count: 0 };
     for (at, &character) in text.iter().enumerate().skip(start) {
-        // "version 04 with a 29 after the 31"
+        // Of a 29 in version 04.
         if header.version == *b"04" && character == SEPARATOR {
             return refuse(ANNEX, at);
         }
@@ -245,7 +244,7 @@ fn read_signature(header: &Header, text: &[u8], start: usize) -> Result<Vec<u8>,
     if !SIGNATURES.contains(&(bytes.len(), length)) {
         return refuse(SIGNATURE_LENGTH, start);
     }
-    // "with the 3, 2 or 4 spare low bits of the last character zero"
+    // The last character has bits that fill no byte: they are zero.
     if bits.value != 0 {
         return refuse(SPARE_BITS, start);
     }
@@ -276,8 +275,7 @@ impl Bits {
     }
 }
 
-/// "27 first (place 64); then 12, 13, 14 ..; then record by record ..; then 21 (place 0); then 5 (place 1,000); then 6
-/// if the output is shorter than the text"
+/// The order of text writing: 27, the header, the records, 21, 5, 6.
 pub fn write_text(
     header: &Header,
     fields: &[Field],
@@ -308,8 +306,7 @@ pub fn write_text(
     Ok(text)
 }
 
-/// "the header comes in its parts (each day as a number, 0 to 65,535) and the library supplies DC ..; parts that the
-/// version lacks are not looked at"
+/// The header from its parts; those that the version lacks are never looked at.
 fn written_header(header: &Header) -> Result<Vec<u8>, Refusal> {
     let length = match header_length(header.version) {
         Some(length) => length,
@@ -331,10 +328,10 @@ fn written_header(header: &Header) -> Result<Vec<u8>, Refusal> {
     Ok(text)
 }
 
-/// "record by record 31, 20, 26, 25, 18, 19"; the place is "the record's index when records are the input".
+/// A record's checks in their order, with its index as the place.
 fn check_record(before: &[Field], field: &Field, data: &[u8]) -> Result<(), Refusal> {
     let index = before.len();
-    // "a record names no row, or its start plus length passes its slice's length"
+    // 31: no such row, or data that leave the slice.
     let end = u64::from(field.start) + u64::from(field.length);
     let row = match ROWS.get(usize::from(field.row)) {
         Some(row) if end <= data.len() as u64 => row,
@@ -343,7 +340,7 @@ fn check_record(before: &[Field], field: &Field, data: &[u8]) -> Result<(), Refu
     if before.iter().any(|other| other.row == field.row) {
         return refuse(REPEATED, index);
     }
-    // "cut mark on a fixed field"
+    // 26: fixed data that are said to be cut.
     if field.cut && row.is_fixed() {
         return refuse(CUT_FIXED, index);
     }
@@ -364,7 +361,7 @@ fn data_of<'a>(field: &Field, data: &'a [u8]) -> &'a [u8] {
     &data[field.start as usize..][..field.length as usize]
 }
 
-/// "Each field is a two-character identifier and its data." Data of greatest length have a mark only when cut.
+/// A field as it is written. Data of greatest length have a mark only when cut.
 fn write_field(field: &Field, data: &[u8], text: &mut Vec<u8>) {
     let row = &ROWS[usize::from(field.row)];
     let data = data_of(field, data);
@@ -393,7 +390,7 @@ pub fn write_signature(signature: &[u8], text: &mut Vec<u8>) {
     }
 }
 
-/// "Conformity: 28, 29 for the least row missing, 30 at the first field."
+/// The order of conformity: 28, 29 with the least row, 30 with the first field.
 pub fn conformity(document_type: [u8; 2], fields: &[Field]) -> Result<(), Refusal> {
     let covered = |table: &&Table| table.types.iter().any(|known| known.as_bytes() == document_type);
     let table = match TABLES.iter().find(covered) {
@@ -401,7 +398,7 @@ pub fn conformity(document_type: [u8; 2], fields: &[Field]) -> Result<(), Refusa
         None => return refuse(TYPE_NOT_COVERED, 0),
     };
     let present = |row: usize| fields.iter().any(|field| usize::from(field.row) == row);
-    // "each O identifier present"
+    // Every mandatory row is there.
     if let Some(row) = (0..ROW_COUNT).find(|&row| is_missing(table, document_type, row, &present)) {
         return refuse(MISSING, row);
     }
@@ -423,8 +420,8 @@ fn names(identifier: &str, row: usize) -> bool {
 }
 
 /// Whether the row is missing: marked O and not present, and no footnote lets another set of fields stand for it.
-/// "where one makes fields interchangeable, one of them is enough .. If all of them are missing, 29 names the least
-/// row." Section 8.1 exchanges 10 for 11, 12 and 13 together: a set counts only as a whole.
+/// A footnote exchanges rows for others: either side will do, and if both are lacking 29 names the least
+/// row. Section 8.1 exchanges 10 for 11, 12 and 13 together: a set counts only as a whole.
 fn is_missing(table: &Table, document_type: [u8; 2], row: usize, present: &impl Fn(usize) -> bool) -> bool {
     if mark(table, document_type, row) != Some(b'O') {
         return false;
@@ -438,8 +435,8 @@ fn is_missing(table: &Table, document_type: [u8; 2], row: usize, present: &impl 
     }
 }
 
-/// "none present that the table marks "-"; any other must stand in the table as F or in a section that the table names
-/// as optional"; "A record that names no row is 30 here".
+/// What is marked with a dash is not permitted, nor is what is neither in the table nor in a section that it makes
+/// optional, nor what is no row.
 fn permitted(table: &Table, document_type: [u8; 2], row: usize) -> bool {
     match mark(table, document_type, row) {
         Some(mark) => mark != b'-',

@@ -219,8 +219,7 @@ impl Bench {
         }
     }
 
-    /// "Two messages are the same when the header parts that the version has, the rows in order, their data, their cut
-    /// marks and the signature bytes are the same; where the data start doesn't count."
+    /// What was written is read as the same message: all but where the data start, and what the version lacks.
     pub fn write_and_read(&mut self, order: &Order) {
         let mut out = vec![0; 1000];
         let answer = ddoc::write_text(order.header, &order.fields, &order.data, &order.signature, &mut out);
@@ -257,7 +256,7 @@ fn data_of(field: &Field, data: &[u8]) -> Option<Vec<u8>> {
     data.get(start..start + field.length as usize).map(<[u8]>::to_vec)
 }
 
-/// "Parts that the version lacks are zero after reading."
+/// What the version lacks is zero after reading.
 fn without_lacking_parts(mut header: Header) -> Header {
     if header.version == *b"02" {
         header.perimeter = [0, 0];

@@ -11,7 +11,8 @@ use lib.ListN.{length, drop, getD, drop-of-length-le}
 use lib.Seq.{drop-cons}
 use borrow.Author.Tests.{leb-true, leb-false, le-leb, lt-leb}
 use Rattle.refusal.proofs.Binds.{by-and, by-or}
-use Rattle.base32.specs.Base32.{inAlphabet, leading}
+use Rattle.base32.specs.Base32.{inAlphabet}
+use Rattle.base32.specs.inner.Code.{leading}
 
 pub above : (c : ℕ) → 65 ≤ c → leb c 90 ≡ inAlphabet c
 above c h = go (leb c 90) refl

@@ -13,8 +13,9 @@ use Rattle.refusal.specs.Over.{over}
 use Rattle.refusal.proofs.Tests.{by-test}
 use Rattle.refusal.proofs.Over.{tail-is, over-tail}
 use Rattle.refusal.proofs.Chars.{chars-at}
-use Rattle.base32.specs.Base32.{inAlphabet, valueOf, charOf, leading, byte1, byte2, byte3, byte4, byte5, bytes, value2, value4, value5, value7, values, decoded, encoded}
+use Rattle.base32.specs.Base32.{inAlphabet, valueOf, charOf, bytes, values, decoded, encoded}
 use Rattle.base32.proofs.RoundTrip.{length-bytes, length-values}
+use Rattle.base32.specs.inner.Code.{leading, byte1, byte2, byte3, byte4, byte5, value2, value4, value5, value7}
 
 -- characters that are all of the alphabet
 front-in : (c : ℕ) (l : List ℕ) → leading (c ∷ l) ≡ length (c ∷ l) → (inAlphabet c ≡ true) × (leading l ≡ length l)

@@ -10,11 +10,8 @@ use lib.Dec.{leb, ltb}
 use lib.ListN.{length}
 use borrow.Author.Tests.{leb-true, le-leb, lt-leb, ltb-true, ltb-false, lt-ltb, le-ltb}
 use Rattle.refusal.proofs.Binds.{by-and, by-or}
-use Rattle.base32.specs.Base32.{inAlphabet, valueOf, charOf, byte1, byte2, byte3, byte4, byte5, bytes, spare, value2, value4, value5, value7, values}
-
-abbrev pub Below : ℕ → List ℕ → Type 0
-Below n [] = Unit {0}
-Below n (v ∷ l) = (v < n) × Below n l
+use Rattle.base32.specs.Base32.{inAlphabet, valueOf, charOf, bytes, values, Below}
+use Rattle.base32.specs.inner.Code.{spare, byte1, byte2, byte3, byte4, byte5, value2, value4, value5, value7}
 
 -- eight values, from their bytes
 v1 : (a b : ℕ) → b < 32 → byte1 a b / 8 ≡ a

@@ -8,7 +8,8 @@ use lib.Dec.{eqb}
 use lib.ListN.{length, getD}
 use borrow.Author.Tests.{ne-eqb}
 use Rattle.refusal.specs.Pick.{pick}
-use Rattle.base32.specs.Base32.{valueOf, spare, spareBits}
+use Rattle.base32.specs.Base32.{valueOf}
+use Rattle.base32.specs.inner.Code.{spare, spareBits}
 
 -- of the last value v, where r characters are left over
 abbrev pub spareIn : (r v : ℕ) → ℕ

@@ -1,1 +1,2 @@
 pub mod Base32
+pub mod inner

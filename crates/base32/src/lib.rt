@@ -3,7 +3,8 @@ ghost use mathlib.Core.Path.{_≡_};
 ghost use Prim.Native.Nat.{_+_, _*_, _/_, _≤_, _<_};
 ghost use lib.ListN.{length, getD, take, replicate};
 ghost use Rattle.refusal.specs.Over.{over};
-ghost use Rattle.base32.specs.Base32.{inAlphabet, valueOf, charOf, leading, decoded, spareBits, encoded};
+ghost use Rattle.base32.specs.Base32.{inAlphabet, valueOf, charOf, decoded, encoded};
+ghost use Rattle.base32.specs.inner.Code.{leading, spareBits};
 
 pub fn in_alphabet(c: u8) -> bool
     ensures { λ r. ⌜ r ≡ inAlphabet c ⌝ }

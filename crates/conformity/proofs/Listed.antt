@@ -10,19 +10,19 @@ use native.Mathlib.Omega.{arith}
 use lib.Dec.{ltb, eqb}
 use lib.ListN.{length, getD, set, take, drop, length-take, drop-of-length-le, List·getD-eq-default}
 use lib.Seq.{getD-set-same, getD-set-other, drop-cons}
-use borrow.Author.Tests.{eqb-true, eqb-false, ltb-true, ltb-false}
+use borrow.Author.Tests.{eqb-true, eqb-false, ltb-true, ltb-false, le-ltb}
 use Rattle.refusal.specs.Pick.{pick}
-use Rattle.refusal.specs.Answers.{Answer, good, _>>_, check}
+use Rattle.refusal.specs.Answers.{Answer, good, _>>_, check, _>>=_}
 use Rattle.refusal.specs.Numbers.{type-not-covered, identifier-not-permitted}
 use Rattle.dictionary.specs.declared.Field.{Field}
-use Rattle.dictionary.specs.Rows.{rowCount}
+use Rattle.dictionary.specs.Rows.{rowCount, rows}
 use Rattle.refusal.proofs.Binds.{left, right, clash}
 use Rattle.refusal.specs.Among.{among}
-use Rattle.dictionary.specs.Dictionary.{rowsOf}
+use Rattle.dictionary.specs.Dictionary.{rowsOf, find}
 use Rattle.conformity.specs.declared.Seen.{Seen}
-use Rattle.conformity.specs.Tables.{Mark, O, F, no, Exchange, Table, domicile, academic}
-use Rattle.conformity.specs.Conformity.{columnOf, tableAt, markOf, mandatory, permitted, every, replaced, there, complete, allowed, conforms}
-use Rattle.conformity.specs.Noted.{markCode, marksOf, answered, begun, markAt, isBarred, isMissing, isThere, met, noted, notedAll, noneMissing, decided}
+use Rattle.conformity.specs.Tables.{Mark, O, F, no, Exchange, Table, domicile, academic, rowOf, tables}
+use Rattle.conformity.specs.Conformity.{columnOf, markOf, mandatory, permitted, every, replaced, there, complete, onlyPermitted, conforms, conformityOf, tableIn}
+use Rattle.conformity.specs.inner.Noted.{markCode, marksOf, begun, markAt, isBarred, isMissing, isThere, met, noted, notedAll, noneMissing, decided, tableAt}
 use Rattle.conformity.proofs.Marks.{mark-at}
 
 column-kept : (s : Seen) (i : ℕ) (fs : List Field) → notedAll s i fs .column ≡ s .column
@@ -114,13 +114,13 @@ permitted-by O false x e = rw e
 permitted-by F h x e = rw e
 permitted-by no h x e = rw e
 
-faults-are : (t : Table) (has : ℕ → Bool) (s : Seen) (i : ℕ) (fs : List Field) → Marked t has (s .rows) → fault (notedAll s i fs) ≡ (fault s >> allowed t i fs)
-unfolding notedAll noted allowed
+faults-are : (t : Table) (has : ℕ → Bool) (s : Seen) (i : ℕ) (fs : List Field) → Marked t has (s .rows) → fault (notedAll s i fs) ≡ (fault s >> onlyPermitted t i fs)
+unfolding notedAll noted onlyPermitted
 faults-are t has s i [] h = at-end (s .wrong) (s .place)
 faults-are t has s i (f ∷ fs) h =
     faults-are t (λ k. has k || eqb k (f .row)) (noted s i f) (suc i) fs (one-met t has (s .rows) h (f .row)) ∙
-    (one-more (s .wrong) (isBarred (s .rows) (f .row)) (s .place) i (allowed t (suc i) fs) ∙
-    ap (λ (z : Bool). fault s >> (check z identifier-not-permitted i >> allowed t (suc i) fs)) (permitted-by (markOf t (f .row)) (has (f .row)) (markAt (s .rows) (f .row)) (h (f .row))))
+    (one-more (s .wrong) (isBarred (s .rows) (f .row)) (s .place) i (onlyPermitted t (suc i) fs) ∙
+    ap (λ (z : Bool). fault s >> (check z identifier-not-permitted i >> onlyPermitted t (suc i) fs)) (permitted-by (markOf t (f .row)) (has (f .row)) (markAt (s .rows) (f .row)) (h (f .row))))
 
 -- WHAT IS MISSING: every row that a footnote names is mandatory, so its mark tells whether it is there
 abbrev asked : Table → List ℕ → Bool
@@ -132,7 +132,7 @@ all-asked t [] = true
 all-asked t (x ∷ xs) = (asked t (x .one) && asked t (x .other)) && all-asked t xs
 
 exchanges-asked : (k : ℕ) → all-asked (tableAt k) (tableAt k .exchanges) ≡ true
-unfolding tableAt markOf domicile academic
+unfolding tableAt markOf domicile academic rowOf find rows
 exchanges-asked zero = refl
 exchanges-asked (suc zero) = refl
 exchanges-asked (suc (suc zero)) = refl
@@ -173,6 +173,16 @@ module _ (t : Table) (has : ℕ → Bool) (l : List ℕ) (marked : Marked t has 
   complete-same e (suc left) n =
       rw (missing-by (markOf t n) (has n) (replaced (isThere l) (t .exchanges) n) (markAt l n) (marked n), replaced-same (t .exchanges) n e, complete-same e left (suc n))
 
+-- the table of a column, refused past the last
+of-column : (k : ℕ) (on : Table → Answer (Unit {0})) → (check (ltb k 5) type-not-covered 0 >> on (tableAt k)) ≡ (tableIn tables k >>= on)
+unfolding tableAt
+of-column zero on = refl
+of-column (suc zero) on = refl
+of-column (suc (suc zero)) on = refl
+of-column (suc (suc (suc zero))) on = refl
+of-column (suc (suc (suc (suc zero)))) on = refl
+of-column (suc (suc (suc (suc (suc k))))) on = rw (le-ltb (suc (suc (suc (suc (suc k))))) 5 (omega arith))
+
 module _ (a b : ℕ) (fs : List Field) where
   abbrev end : Seen
   end = notedAll (begun a b) 0 fs
@@ -189,14 +199,15 @@ module _ (a b : ℕ) (fs : List Field) where
     x
     y
 
-  pub decided-right : decided end ≡ answered (conforms a b fs)
+  pub decided-right : decided end ≡ conformityOf (conforms a b fs)
   unfolding decided conforms
   decided-right =
       let none-yet = at-first k in
-      ap (λ (c : ℕ). answered (answer c (noneMissing (tableAt c .exchanges) (end .rows) rowCount 0) (fault end))) (column-kept (begun a b) 0 fs) ∙
-      (ap (λ (z : Answer (Unit {0})). answered (answer k z (fault end)))
+      ap (λ (c : ℕ). conformityOf (answer c (noneMissing (tableAt c .exchanges) (end .rows) rowCount 0) (fault end))) (column-kept (begun a b) 0 fs) ∙
+      (ap (λ (z : Answer (Unit {0})). conformityOf (answer k z (fault end)))
       (complete-same (tableAt k) named (end .rows) (rows-are (tableAt k) (λ _. false) (begun a b) 0 fs none-yet) (exchanges-asked k) 110 0) ∙
-      ap (λ (z : Answer (Unit {0})). answered (answer k (complete (tableAt k) named rowCount 0) z)) (faults-are (tableAt k) (λ _. false) (begun a b) 0 fs none-yet))
+      ap (λ (z : Answer (Unit {0})). conformityOf (answer k (complete (tableAt k) named rowCount 0) z)) (faults-are (tableAt k) (λ _. false) (begun a b) 0 fs none-yet) ∙
+      ap conformityOf (of-column k (λ t. complete t named rowCount 0 >> onlyPermitted t 0 fs)))
 
 -- one turn of the loop: the record at i is noted, and the rest of the list is one record shorter
 pub next-noted : (s next : Seen) (i : ℕ) (x d : Field) (fs : List Field) → i < length fs → x ≡ getD fs i d → next ≡ noted s i x

@@ -11,8 +11,8 @@ use borrow.Author.Tests.{ltb-true, ltb-false}
 use Rattle.refusal.specs.Pick.{pick}
 use Rattle.dictionary.specs.Rows.{rowCount}
 use Rattle.conformity.specs.Tables.{Mark, no, tables}
-use Rattle.conformity.specs.Conformity.{none, tableAt, markOf}
-use Rattle.conformity.specs.Noted.{codeOf, marksOf}
+use Rattle.conformity.specs.Conformity.{markOf}
+use Rattle.conformity.specs.inner.Noted.{codeOf, marksOf, none, tableAt}
 
 module _ (k : ℕ) where
   long : (left n : ℕ) → length (marksOf k left n) ≡ left

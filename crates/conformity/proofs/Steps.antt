@@ -13,13 +13,14 @@ use Rattle.refusal.specs.Among.{among}
 use Rattle.refusal.specs.Answers.{Answer, good, refused, _>>_, check}
 use Rattle.refusal.specs.Numbers.{type-not-covered, identifier-missing, identifier-not-permitted, refusal}
 use Rattle.dictionary.specs.declared.Field.{Field}
-use Rattle.dictionary.specs.Rows.{rowCount}
+use Rattle.dictionary.specs.Rows.{rowCount, rows}
 use Rattle.refusal.proofs.Binds.{clash}
 use Rattle.conformity.specs.declared.Conformity.the-variants.{Conforms, Refused}
 use Rattle.conformity.specs.declared.Seen.{Seen}
-use Rattle.conformity.specs.Tables.{Exchange, footnote-star, footnote-6}
-use Rattle.conformity.specs.Conformity.{tableAt, replaced}
-use Rattle.conformity.specs.Noted.{answered, seen, markAt, isThere, wrongAt, noted, missingSays, noneMissing, decided}
+use Rattle.conformity.specs.Tables.{Exchange, footnote-star, footnote-6, rowOf}
+use Rattle.conformity.specs.Conformity.{replaced, conformityOf}
+use Rattle.conformity.specs.inner.Noted.{seen, markAt, isThere, wrongAt, noted, missingSays, noneMissing, decided, tableAt}
+use Rattle.dictionary.specs.Dictionary.{find}
 
 -- a test among others that computed away
 alone : (x : Bool) → x ≡ (((x && true) || false) || false)
@@ -36,32 +37,32 @@ module _ (has : ℕ → Bool) (n : ℕ) where
 
   -- 10, for which 11, 12 and 13 stand
   pub star-all : n ≡ 13 → has 14 ≡ true → has 15 ≡ true → has 16 ≡ starred
-  unfolding among
+  unfolding among rowOf find rows
   star-all e p q = rw (e, p, q) (alone (has 16))
 
   pub star-no-11 : n ≡ 13 → has 14 ≡ false → false ≡ starred
-  unfolding among
+  unfolding among rowOf find rows
   star-no-11 e p = rw (e, p)
 
   pub star-no-12 : n ≡ 13 → has 14 ≡ true → has 15 ≡ false → false ≡ starred
-  unfolding among
+  unfolding among rowOf find rows
   star-no-12 e p q = rw (e, p, q)
 
   -- 11, 12 and 13, for which 10 stands
   pub star-11 : n ≡ 14 → has 13 ≡ starred
-  unfolding among
+  unfolding among rowOf find rows
   star-11 e = rw e (last (has 13))
 
   pub star-12 : n ≡ 15 → has 13 ≡ starred
-  unfolding among
+  unfolding among rowOf find rows
   star-12 e = rw e (last (has 13))
 
   pub star-13 : n ≡ 16 → has 13 ≡ starred
-  unfolding among
+  unfolding among rowOf find rows
   star-13 e = rw e (last (has 13))
 
   pub star-none : (n ≡ 13 → ⊥) → (n ≡ 14 → ⊥) → (n ≡ 15 → ⊥) → (n ≡ 16 → ⊥) → false ≡ starred
-  unfolding among
+  unfolding among rowOf find rows
   star-none a b c d = simp (ne-eqb n 13 a, ne-eqb n 14 b, ne-eqb n 15 c, ne-eqb n 16 d)
 
   abbrev sixth : Bool
@@ -69,15 +70,15 @@ module _ (has : ℕ → Bool) (n : ℕ) where
 
   -- B0 and B1, which stand for each other
   pub six-B0 : n ≡ 89 → has 90 ≡ sixth
-  unfolding among
+  unfolding among rowOf find rows
   six-B0 e = rw e (alone (has 90))
 
   pub six-B1 : n ≡ 90 → has 89 ≡ sixth
-  unfolding among
+  unfolding among rowOf find rows
   six-B1 e = rw e (last (has 89))
 
   pub six-none : (n ≡ 89 → ⊥) → (n ≡ 90 → ⊥) → false ≡ sixth
-  unfolding among
+  unfolding among rowOf find rows
   six-none a b = simp (ne-eqb n 89 a, ne-eqb n 90 b)
 
 -- the exchanges of a column
@@ -177,8 +178,8 @@ module _ (s : Seen) where
 
   pub verdict-30 : (n : ℕ) → s .column < 5 → missingSays n ≡ found → 110 ≤ n → s .wrong ≡ true → Refused (refusal identifier-not-permitted (s .place)) ≡ decided s
   unfolding decided
-  verdict-30 n h e l w = rw (lt-ltb (s .column) 5 h, none-missing n e l) (ap (λ (z : Bool). answered (check (not z) identifier-not-permitted (s .place))) (sym w))
+  verdict-30 n h e l w = rw (lt-ltb (s .column) 5 h, none-missing n e l) (ap (λ (z : Bool). conformityOf (check (not z) identifier-not-permitted (s .place))) (sym w))
 
   pub verdict-good : (n : ℕ) → s .column < 5 → missingSays n ≡ found → 110 ≤ n → s .wrong ≡ false → Conforms ≡ decided s
   unfolding decided
-  verdict-good n h e l w = rw (lt-ltb (s .column) 5 h, none-missing n e l) (ap (λ (z : Bool). answered (check (not z) identifier-not-permitted (s .place))) (sym w))
+  verdict-good n h e l w = rw (lt-ltb (s .column) 5 h, none-missing n e l) (ap (λ (z : Bool). conformityOf (check (not z) identifier-not-permitted (s .place))) (sym w))

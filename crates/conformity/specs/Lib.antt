@@ -1,3 +1,3 @@
 pub mod Tables
 pub mod Conformity
-pub mod Noted
+pub mod inner

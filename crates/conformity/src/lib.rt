@@ -12,8 +12,8 @@ ghost use Prim.Native.Nat.{_<_};
 ghost use lib.ListN.{take};
 ghost use Rattle.dictionary.specs.Rows.{rowCount};
 ghost use Rattle.conformity.specs.Tables.{footnote-star, footnote-6};
-ghost use Rattle.conformity.specs.Conformity.{columnOf, tableAt, replaced, conforms as rightAnswer};
-ghost use Rattle.conformity.specs.Noted.{marksOf, answered, begun, wrongAt, noted, isThere, missingSays, noneMissing, decided};
+ghost use Rattle.conformity.specs.Conformity.{columnOf, replaced, ConformityPromised};
+ghost use Rattle.conformity.specs.inner.Noted.{marksOf, begun, wrongAt, noted, isThere, missingSays, noneMissing, decided, tableAt};
 
 pub enum Conformity {
     Conforms,
@@ -109,8 +109,8 @@ fn wrong_at(s: Seen, i: usize) -> Seen
     next
 }
 
-// The field at the place i is noted. "None present that the table marks "-"; any other must stand in the table as F or in a section that the
-// table names as optional". "A record that names no row is 30 here; a repeat is no fault."
+// The field at the place i is noted: a mandatory row is there from now on, and a row that the table does not permit, or none at all, is
+// wrong ("The text", conformity). A row that is named again changes nothing.
 pub fn note(s: Seen, i: usize, f: Field) -> Seen
     ensures { λ r. ⌜ r ≡ noted s i f ⌝ }
 {
@@ -130,7 +130,7 @@ pub fn note(s: Seen, i: usize, f: Field) -> Seen
     s
 }
 
-// "La donnée 10 et les données (11, 12, 13) sont interchangeables."
+// Footnote * of section 8.1: 10 stands for 11, 12 and 13, and these three together for 10.
 fn by_star(rows: &[u8; ROW_COUNT], n: usize) -> bool
     ensures { λ r. ⌜ r ≡ replaced (isThere (now (rows .entry))) (footnote-star ∷ []) n ⌝ }
 {
@@ -154,7 +154,7 @@ fn by_star(rows: &[u8; ROW_COUNT], n: usize) -> bool
     false
 }
 
-// "Les données B0 et B1 sont interchangeables."
+// Footnote 6 of section 8.7: B0 and B1 stand for each other.
 fn by_six(rows: &[u8; ROW_COUNT], n: usize) -> bool
     ensures { λ r. ⌜ r ≡ replaced (isThere (now (rows .entry))) (footnote-6 ∷ []) n ⌝ }
 {
@@ -181,7 +181,7 @@ fn is_replaced(column: usize, rows: &[u8; ROW_COUNT], n: usize) -> bool
     false
 }
 
-// "each O identifier present": the least row that is missing, or the count of rows.
+// The least mandatory row that is missing and that nothing stands for, or the count of rows.
 fn first_missing(column: usize, rows: &[u8; ROW_COUNT]) -> usize
     requires { ⌜ column < 5 ⌝ }
     ensures { λ r. ⌜ missingSays r ≡ noneMissing (tableAt column .exchanges) (now (rows .entry)) rowCount 0 ⌝ }
@@ -198,7 +198,7 @@ fn first_missing(column: usize, rows: &[u8; ROW_COUNT]) -> usize
     ROW_COUNT
 }
 
-// "Conformity: 28, 29 for the least row missing, 30 at the first field."
+// In this order: 28, 29 with the least row that is missing, 30 with the first field that is not permitted.
 pub fn decide(s: Seen) -> Conformity
     ensures { λ r. ⌜ r ≡ decided s ⌝ }
 {
@@ -228,7 +228,7 @@ pub fn decide(s: Seen) -> Conformity
 
 // The conformity of a message's fields to the table of its type.
 pub fn conforms(type0: u8, type1: u8, f: Fields) -> Conformity
-    ensures { λ r. ⌜ r ≡ answered (rightAnswer type0 type1 (take (f .count) (f .list))) ⌝ }
+    ensures { λ r. ⌜ ConformityPromised type0 type1 (take (f .count) (f .list)) r ⌝ }
 {
     let end = dictionary::held(f.count);
     let mut s = begin(type0, type1);

@@ -10,12 +10,12 @@ use Rattle.header.specs.declared.Header.{Header}
 use Rattle.text.specs.Text.{Message, writeText}
 use Rattle.text_writer.specs.Writing.{writeFirst}
 use Rattle.text_writer.proofs.Texts.{of-lent}
-use Rattle.records.specs.Lists.{byValue}
+use Rattle.records.specs.inner.Lists.{byValue}
 use Rattle.records.proofs.ByValue.{by-value-count, by-value-all}
 
 abbrev pub message : Header → List Field → (signature : List ℕ) → Message
 message h l s = record { header = h; fields = l; signature = s }
 
-pub any-list : (d : Dictionary) (h : Header) (l : List Field) (s slice : List ℕ) (room : ℕ) → writeFirst d h (byValue l) s slice room ≡ writeText d (message h l s) slice room
+pub any-list : (d : Dictionary) (h : Header) (l : List Field) (s source : List ℕ) (room : ℕ) → writeFirst d h (byValue l) s source room ≡ writeText d (message h l s) source room
 unfolding byValue
-any-list d h l s slice room = of-lent d h (byValue l) s slice room l (by-value-count l) (λ few. by-value-all l few)
+any-list d h l s source room = of-lent d h (byValue l) s source room l (by-value-count l) (λ few. by-value-all l few)

@@ -1,21 +1,17 @@
 -- The answers of the layers below, turned into numbers, are what the definitions of this crate say.
 -- Assumes nothing.
-use mathlib.Core.Path.{_≡_, refl}
-use mathlib.Core.List.{List}
 use Prim.Native.Nat.{ℕ}
+use mathlib.Core.Path.{_≡_, refl}
 use Rattle.codeword.specs.Reading.{Reading, good, refused}
 use Rattle.symbol_reader.specs.declared.SymbolRead.{SymbolRead}
 use Rattle.symbol_reader.specs.declared.SymbolRead.the-variants.{Text, Refused}
 use Rattle.symbol_reader.specs.Answers.{answered}
 use Rattle.ddoc.specs.declared.Answer.{Answer}
-use Rattle.ddoc.specs.Answers.{readingAnswer, listingAnswer, writtenAnswer}
+use Rattle.ddoc.specs.Answers.{readingAnswer, listingAnswer}
 use Rattle.refusal.specs.Answers.{Answer as Outcome, good as written, refused as unwritten}
 use Rattle.check_words.specs.declared.Listing.{Listing}
 use Rattle.check_words.specs.declared.Listing.the-variants.{Words, Refused as Unlisted}
 use Rattle.check_words.specs.Answers.{answered as listed}
-use Rattle.text_writer.specs.declared.TextWritten.{TextWritten}
-use Rattle.text_writer.specs.declared.TextWritten.the-variants.{Written, Refused as Unwritten}
-use Rattle.text_writer.specs.Writing.{textWritten}
 
 abbrev pub numbers : SymbolRead → Answer
 numbers (Text n used) = record { number = 0; place = 0; length = n; used = used }
@@ -24,14 +20,6 @@ numbers (Refused r) = record { number = r .number; place = r .place; length = 0;
 pub numbers-are : (o : Reading) → numbers (answered o) ≡ readingAnswer o
 numbers-are (good t n b) = refl
 numbers-are (refused k p) = refl
-
-abbrev pub text-numbers : TextWritten → Answer
-text-numbers (Written n) = record { number = 0; place = 0; length = n; used = 0 }
-text-numbers (Unwritten r) = record { number = r .number; place = r .place; length = 0; used = 0 }
-
-pub text-numbers-are : (o : Outcome (List ℕ)) → text-numbers (textWritten o) ≡ writtenAnswer o
-text-numbers-are (written t) = refl
-text-numbers-are (unwritten k p) = refl
 
 abbrev pub list-numbers : Listing → Answer
 list-numbers (Words m) = record { number = 0; place = 0; length = m; used = 0 }

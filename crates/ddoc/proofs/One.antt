@@ -1,6 +1,6 @@
--- What each exported function promises, of its answer and of what was lent, leaves one answer. All promises are equations but that of writing a
--- symbol, which speaks of the best symbol, which is one, and that of printing check words, which speaks of the words that make the list right,
--- which are one.
+-- What each exported function promises, of its answer and of what was lent, leaves one answer. The promises over texts are the contracts' own
+-- definitions. All promises are equations but that of writing a symbol, which speaks of the best symbol, which is one, and that of printing check
+-- words, which speaks of the words that make the list right, which are one.
 -- Assumes nothing.
 use Prim.Native.Nat.{ℕ}
 use mathlib.Core.List.{List}
@@ -13,19 +13,13 @@ use Rattle.galois.specs.Polynomial.{Bytes}
 use Rattle.check_words.specs.Answers.{wordsOf, Left}
 use Rattle.check_words.proofs.Promise as check-words-promise
 use Rattle.dictionary.specs.declared.Field.{Field}
-use Rattle.dictionary.specs.Rows.{rows}
-use Rattle.conformity.specs.Conformity.{conforms}
-use Rattle.conformity.specs.Noted.{answered}
-use Rattle.text.specs.Text.{readText, writeText}
 use Rattle.text.specs.Text as text
-use Rattle.text_reader.specs.Answers.{textAnswer}
-use Rattle.text_writer.specs.Writing.{writtenOver}
 use Rattle.day_file.specs.Promise.{adding, withdrawing, placing, sliceAfter}
 use Rattle.day_file.specs.Answers.{addedAnswer, withdrawnAnswer, placedAnswer}
 use Rattle.ddoc.specs.declared.Answer.{Answer}
 use Rattle.ddoc.specs.declared.Message.{Message}
 use Rattle.ddoc.specs.declared.Part.{Part}
-use Rattle.ddoc.specs.Answers.{readingAnswer, writingAnswer, Writes, listingAnswer, conformityAnswer, messageAnswer, listAfter, writtenAnswer}
+use Rattle.ddoc.specs.Answers.{readingAnswer, writingAnswer, Writes, listingAnswer, ReadTextPromised, WriteTextPromised, ConformityAnswered}
 use Rattle.squeeze.specs.Squeeze.{squeezing, squeezedSlice, oldsAfter, newsAfter}
 use Rattle.squeeze.specs.Answers.{squeezedAnswer}
 use Rattle.tally.specs.Counting.{counting}
@@ -53,22 +47,13 @@ pub check-words : (ds old new new′ : List ℕ) (r r′ : Answer) → Bytes ds 
 check-words ds old new new′ r r′ by p q =
     (p .0 ∙ sym (q .0), check-words-promise.left-one (wordsOf (length ds) (length old)) ds old new new′ refl by (p .1) (q .1))
 
-abbrev ReadsText : (t : List ℕ) → (old new : List Field) → Message → Type 0
-ReadsText t old new r = (r ≡ messageAnswer (textAnswer (readText rows (length old) t))) × (new ≡ listAfter (readText rows (length old) t) old)
-
-pub read-text : (t : List ℕ) (old new new′ : List Field) (r r′ : Message) → ReadsText t old new r → ReadsText t old new′ r′ → (r ≡ r′) × (new ≡ new′)
+pub read-text : (t : List ℕ) (old new new′ : List Field) (r r′ : Message) → ReadTextPromised t old new r → ReadTextPromised t old new′ r′ → (r ≡ r′) × (new ≡ new′)
 read-text t old new new′ r r′ p q = (p .0 ∙ sym (q .0), p .1 ∙ sym (q .1))
 
-abbrev WritesText : (m : text.Message) → (slice old new : List ℕ) → Answer → Type 0
-WritesText m slice old new r = (r ≡ writtenAnswer (writeText rows m slice (length old))) × (new ≡ writtenOver (writeText rows m slice (length old)) old)
+pub write-text : (m : text.Message) (source old new new′ : List ℕ) (r r′ : Answer) → WriteTextPromised m source old new r → WriteTextPromised m source old new′ r′ → (r ≡ r′) × (new ≡ new′)
+write-text m source old new new′ r r′ p q = (p .0 ∙ sym (q .0), p .1 ∙ sym (q .1))
 
-pub write-text : (m : text.Message) (slice old new new′ : List ℕ) (r r′ : Answer) → WritesText m slice old new r → WritesText m slice old new′ r′ → (r ≡ r′) × (new ≡ new′)
-write-text m slice old new new′ r r′ p q = (p .0 ∙ sym (q .0), p .1 ∙ sym (q .1))
-
-abbrev Conforms : (type0 type1 : ℕ) → List Field → Answer → Type 0
-Conforms a b l r = r ≡ conformityAnswer (answered (conforms a b l))
-
-pub conformity : (a b : ℕ) (l : List Field) (r r′ : Answer) → Conforms a b l r → Conforms a b l r′ → r ≡ r′
+pub conformity : (a b : ℕ) (l : List Field) (r r′ : Answer) → ConformityAnswered a b l r → ConformityAnswered a b l r′ → r ≡ r′
 conformity a b l r r′ p q = p ∙ sym q
 
 abbrev Adds : (old : List ℕ) (len : ℕ) (text new : List ℕ) → Answer → Type 0

@@ -21,9 +21,9 @@ use Rattle.dictionary.specs.declared.Field.{Field}
 use Rattle.header.specs.Header.{size, readHeader}
 use Rattle.text.specs.Signature.{readSignature}
 use Rattle.text.specs.Zone.{readData, zone}
-use Rattle.text.specs.Text.{atMark, Reading, reading, readText}
+use Rattle.text.specs.Text.{atMark, Received, reading, readText}
 use Rattle.text_reader.specs.Answers.{textAnswer}
-use Rattle.records.specs.Lists.{pasted}
+use Rattle.records.specs.inner.Lists.{pasted}
 use Rattle.ddoc.specs.Answers.{listAfter}
 
 zone-few : (d : Dictionary) (room : ℕ) (before : List Field) (p : ℕ) (l : List ℕ) (x : List Field) → zone d room before p l ≡ good x → length x ≤ length before + room
@@ -46,20 +46,20 @@ zone-few d (suc room) before p (a ∷ b ∷ l) x e =
     let m : length (before ++ (f ∷ [])) ≡ length before + 1 = length-append before (f ∷ []) in
     omega (arith, k, m)
 
-reading-few : (t : List ℕ) (x : Reading) → reading rows t ≡ good x → length (x .message .fields) ≤ most-fields
+reading-few : (t : List ℕ) (x : Received) → reading rows t ≡ good x → length (x .message .fields) ≤ most-fields
 unfolding reading
 reading-few t x e =
     by-bind (readHeader t) _ e λ y _ e.
     by-bind (atMark (size (y .version)) (drop (size (y .version)) t)) _ e λ h _ e.
     by-bind (zone rows most-fields [] (size (y .version)) (h .before)) _ e λ f few e.
     by-bind (readSignature (y .version) (suc (size (y .version) + length (h .before))) (h .behind)) _ e λ s _ e.
-    subst (λ (r : Reading). length (r .message .fields) ≤ most-fields) (same-good e) (zone-few rows most-fields [] (size (y .version)) (h .before) f few)
+    subst (λ (r : Received). length (r .message .fields) ≤ most-fields) (same-good e) (zone-few rows most-fields [] (size (y .version)) (h .before) f few)
 
 pub fields-fit : (room : ℕ) (t : List ℕ) → (textAnswer (readText rows room t) .fields .count ≤ 64) × (textAnswer (readText rows room t) .fields .count ≤ room)
 unfolding readText
 fields-fit room t = go (readText rows room t) refl
   where
-    go : (a : Answer Reading) → readText rows room t ≡ a → (textAnswer a .fields .count ≤ 64) × (textAnswer a .fields .count ≤ room)
+    go : (a : Answer Received) → readText rows room t ≡ a → (textAnswer a .fields .count ≤ 64) × (textAnswer a .fields .count ≤ room)
     go (good x) e =
         by-check (leb (length t) limit) text-too-long limit _ e λ _ e.
         by-check (leb most-fields room) lent-too-short 0 _ e λ h e.
@@ -68,6 +68,6 @@ fields-fit room t = go (readText rows room t) refl
         (few, omega (arith, few, wide))
     go (refused k p) e = (omega arith, omega arith)
 
-pub stored : (a : Answer Reading) (old : List Field) → pasted (textAnswer a .fields .list) old (textAnswer a .fields .count) ≡ listAfter a old
+pub stored : (a : Answer Received) (old : List Field) → pasted (textAnswer a .fields .list) old (textAnswer a .fields .count) ≡ listAfter a old
 stored (good x) old = ap (λ (l : List Field). l ++ drop (length (x .message .fields)) old) (take-at (x .message .fields) _ (length (x .message .fields)) refl)
 stored (refused k p) old = refl

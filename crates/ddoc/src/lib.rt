@@ -5,13 +5,9 @@ ghost use Rattle.codeword.specs.Reading.{readSymbol};
 ghost use Rattle.symbol_reader.specs.Answers.{lentAfter};
 ghost use Rattle.symbol_writer.specs.Promise.{workLeft};
 ghost use Rattle.check_words.specs.Answers.{wordsOf, Left};
-ghost use Rattle.conformity.specs.Conformity.{conforms};
-ghost use Rattle.conformity.specs.Noted.{answered};
 ghost use Rattle.dictionary.specs.Rows.{rows};
-ghost use Rattle.text.specs.Text.{readText, writeText};
+ghost use Rattle.text.specs.Text.{readText};
 ghost use Rattle.text_reader.specs.Answers.{textAnswer};
-ghost use Rattle.text_writer.specs.Writing.{writeFirst, writtenOver};
-ghost use Rattle.ddoc.specs.Answers.{readingAnswer, Writes, listingAnswer, conformityAnswer, refusalOf, messageAnswer, wholeAnswer, listAfter, writtenAnswer};
 ghost use Rattle.day_file.specs.Promise.{adding, withdrawing, placing, sliceAfter};
 ghost use Rattle.day_file.specs.Answers.{addedAnswer, withdrawnAnswer, placedAnswer};
 ghost use Rattle.squeeze.specs.Squeeze.{squeezing, squeezedSlice, oldsAfter, newsAfter};
@@ -19,6 +15,9 @@ ghost use Rattle.squeeze.specs.Answers.{squeezedAnswer};
 ghost use Rattle.tally.specs.Counting.{counting};
 ghost use Rattle.tally.specs.Answers.{countedAnswer};
 ghost use Rattle.ddoc.specs.Files.{addedNumbers, withdrawnNumbers, partNumbers, squeezedNumbers, talliedNumbers};
+ghost use Rattle.text_writer.specs.Writing.{writeFirst, textWritten, writtenOver};
+ghost use Rattle.ddoc.specs.Answers.{readingAnswer, Writes, listingAnswer, conformityAnswer, refusalOf, messageAnswer, writtenAnswer, ReadTextPromised, WriteTextPromised, ConformityAnswered};
+ghost use Rattle.ddoc.specs.inner.Whole.{wholeAnswer};
 use check_words::Listing;
 use conformity::Conformity;
 use day_file::Added;
@@ -139,7 +138,7 @@ fn conformity_numbers(c: Conformity) -> Answer
 
 #[no_mangle]
 pub extern "C" fn ddoc_conformity(type0: u8, type1: u8, fields: &[Field]) -> Answer
-    ensures { λ r. ⌜ r ≡ conformityAnswer (answered (conforms type0 type1 (now (fields .entry)))) ⌝ }
+    ensures { λ r. ⌜ ConformityAnswered type0 type1 (now (fields .entry)) r ⌝ }
 {
     let c = records::conforms_list(type0, type1, fields);
     conformity_numbers(c)
@@ -209,8 +208,7 @@ fn read_whole(text: &[u8], room: usize) -> Whole
 // The count is 0 where the text is refused, so that the list is as it was.
 #[no_mangle]
 pub extern "C" fn ddoc_read_text(text: &[u8], fields: &mut [Field]) -> Message
-    ensures answer { λ r. ⌜ r ≡ messageAnswer (textAnswer (readText rows (length (now (fields .entry))) (now (text .entry)))) ⌝ }
-    ensures lent { λ r. ⌜ now (fields .exit) ≡ listAfter (readText rows (length (now (fields .entry))) (now (text .entry))) (now (fields .entry)) ⌝ }
+    ensures { λ r. ⌜ ReadTextPromised (now (text .entry)) (now (fields .entry)) (now (fields .exit)) r ⌝ }
 {
     let room = fields.len();
     let w = read_whole(text, room);
@@ -223,14 +221,14 @@ pub extern "C" fn ddoc_read_text(text: &[u8], fields: &mut [Field]) -> Message
 fn write_numbers(
     header: Header,
     f: Fields,
-    slice: &[u8],
+    source: &[u8],
     signature: &[u8],
     out: &mut [u8],
 ) -> Answer
-    ensures answer { λ r. ⌜ r ≡ writtenAnswer (writeFirst rows header f (now (signature .entry)) (now (slice .entry)) (length (now (out .entry)))) ⌝ }
-    ensures lent { λ r. ⌜ now (out .exit) ≡ writtenOver (writeFirst rows header f (now (signature .entry)) (now (slice .entry)) (length (now (out .entry)))) (now (out .entry)) ⌝ }
+    ensures answer { λ r. ⌜ r ≡ writtenAnswer (textWritten (writeFirst rows header f (now (signature .entry)) (now (source .entry)) (length (now (out .entry))))) ⌝ }
+    ensures lent { λ r. ⌜ now (out .exit) ≡ writtenOver (writeFirst rows header f (now (signature .entry)) (now (source .entry)) (length (now (out .entry)))) (now (out .entry)) ⌝ }
 {
-    let answer = text_writer::write_text(header, f, slice, signature, out);
+    let answer = text_writer::write_text(header, f, source, signature, out);
     match answer {
         TextWritten::Written(n) => Answer {
             number: 0,
@@ -247,20 +245,19 @@ fn write_numbers(
     }
 }
 
-// The records' data stand in `slice`. The answer's length is that of the text written.
+// The records' data stand in `source`. The answer's length is that of the text written.
 #[no_mangle]
 pub extern "C" fn ddoc_write_text(
     header: Header,
     fields: &[Field],
-    slice: &[u8],
+    source: &[u8],
     signature: &[u8],
     out: &mut [u8],
 ) -> Answer
-    ensures answer { λ r. ⌜ r ≡ writtenAnswer (writeText rows (record { header = header; fields = now (fields .entry); signature = now (signature .entry) }) (now (slice .entry)) (length (now (out .entry)))) ⌝ }
-    ensures lent { λ r. ⌜ now (out .exit) ≡ writtenOver (writeText rows (record { header = header; fields = now (fields .entry); signature = now (signature .entry) }) (now (slice .entry)) (length (now (out .entry)))) (now (out .entry)) ⌝ }
+    ensures { λ r. ⌜ WriteTextPromised (record { header = header; fields = now (fields .entry); signature = now (signature .entry) }) (now (source .entry)) (now (out .entry)) (now (out .exit)) r ⌝ }
 {
     let f = records::take_fields(fields);
-    write_numbers(header, f, slice, signature, out)
+    write_numbers(header, f, source, signature, out)
 }
 
 // A part of a lent slice. Refused: start and length 0.

@@ -11,7 +11,8 @@ use Rattle.dictionary.specs.declared.Row.{Row}
 use Rattle.dictionary.specs.declared.Kind.{Kind}
 use Rattle.dictionary.specs.declared.Kind.the-variants.{Numeric, Alphabetic, Alphanumeric}
 use Rattle.refusal.proofs.Binds.{left}
-use Rattle.dictionary.specs.Dictionary.{between, upper, inKind, allowed}
+use Rattle.dictionary.specs.Dictionary.{inKind, allowed}
+use Rattle.refusal.specs.Classes.{between, upper}
 
 module _ (k : Kind) (b : Bool) (c : ℕ) (e : k ≡ Alphabetic) (u : b ≡ upper c) where
   pub letter-is : b ≡ true → true ≡ inKind k c

@@ -8,15 +8,15 @@ use native.Mathlib.Omega.{arith}
 use lib.ListN.{getD, drop}
 use lib.Seq.{getD-drop}
 use Rattle.dictionary.specs.declared.Kind.{Kind}
-use Rattle.dictionary.specs.declared.Limit.{Limit}
+use Rattle.dictionary.specs.declared.Greatest.{Greatest}
 use Rattle.dictionary.specs.declared.Row.{Row}
 use Rattle.dictionary.specs.Dictionary.{Dictionary}
 use Rattle.dictionary.specs.Rows.{row, rows}
-use Rattle.dictionary.specs.Lookup.{limitOf, kindOf, flat, rowTable, noRow}
+use Rattle.dictionary.specs.inner.Lookup.{greatestOf, kindOf, flat, rowTable, noRow}
 
 -- the row that is made of the five numbers from p on
 abbrev pub rowFrom : List ℕ → (p : ℕ) → Row
-rowFrom t p = row (getD t p 0) (getD t (p + 1) 0) (getD t (p + 2) 0) (limitOf (getD t (p + 3) 0)) (kindOf (getD t (p + 4) 0))
+rowFrom t p = row (getD t p 0) (getD t (p + 1) 0) (getD t (p + 2) 0) (greatestOf (getD t (p + 3) 0)) (kindOf (getD t (p + 4) 0))
 
 -- the first n rows of a flat list
 unfoldable pub rowsFrom : (n : ℕ) → List ℕ → Dictionary
@@ -41,7 +41,7 @@ unfolding rowsFrom rowTable flat rows
 table-right = refl
 
 -- the row n of a list that is the table, the last three of its numbers being read by functions
-pub table-row : (t : List ℕ) → t ≡ rowTable → (n : ℕ) → n < 110 → (m : Limit) (k : Kind) (l : ℕ)
-    → m ≡ limitOf (getD t (5 * n + 3) 0) → k ≡ kindOf (getD t (5 * n + 4) 0) → l ≡ getD t (5 * n + 2) 0
+pub table-row : (t : List ℕ) → t ≡ rowTable → (n : ℕ) → n < 110 → (m : Greatest) (k : Kind) (l : ℕ)
+    → m ≡ greatestOf (getD t (5 * n + 3) 0) → k ≡ kindOf (getD t (5 * n + 4) 0) → l ≡ getD t (5 * n + 2) 0
     → row (getD t (5 * n) 0) (getD t (5 * n + 1) 0) l m k ≡ getD rows n noRow
 table-row t e n h m k l em ek el = rw (em, ek, el) (row-from noRow 110 t n h ∙ ap (λ (d : Dictionary). getD d n noRow) (ap (rowsFrom 110) e ∙ table-right))

@@ -18,10 +18,15 @@ use Rattle.dictionary.specs.declared.Found.{Found}
 use Rattle.dictionary.specs.declared.Found.the-variants.{At, Unknown}
 use Rattle.dictionary.specs.declared.RowFound.{RowFound}
 use Rattle.dictionary.specs.declared.RowFound.the-variants.{Is, NoRow}
-use Rattle.dictionary.specs.Dictionary.{Dictionary, Numbered, find, rowAt, listed, distinct, plain}
+use Rattle.dictionary.specs.Dictionary.{Dictionary, Numbered, find, rowAt, rising, listed, distinct}
 use Rattle.dictionary.specs.Rows.{rows, rowCount}
 use Rattle.refusal.proofs.Binds.{left, right, not-refused, same-good}
-use Rattle.dictionary.specs.Lookup.{baseOf, digitOf, placeOf, foundSays, rowFoundSays}
+use Rattle.dictionary.specs.inner.Lookup.{baseOf, digitOf, placeOf, foundSays, rowFoundSays, plain}
+
+-- THE ROWS RISE by identifier
+pub rows-rising : rising rows ≡ true
+unfolding rows rising
+rows-rising = refl
 
 pub rows-distinct : distinct rows ≡ true
 unfolding rows distinct listed

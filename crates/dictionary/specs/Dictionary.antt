@@ -1,32 +1,24 @@
 -- A dictionary: rows numbered from 0, each with an identifier, lengths and the characters of its data (document 01, "The text").
-use Prim.Native.Nat.{ℕ, zero, suc}
+use Prim.Native.Nat.{ℕ, zero, suc, _+_, _*_}
 use mathlib.Core.Bool.{Bool, true, false, not, _&&_, _||_}
 use mathlib.Core.List.{List, [], _∷_, map}
-use lib.Dec.{leb, eqb}
+use lib.Dec.{ltb, eqb}
 use lib.ListN.{length}
 use Rattle.refusal.specs.Pick.{pick}
 use Rattle.refusal.specs.Answers.{Answer, good, refused}
 use Rattle.refusal.specs.Numbers.{unknown-identifier, bad-record}
 use Rattle.dictionary.specs.declared.Kind.{Kind}
 use Rattle.dictionary.specs.declared.Kind.the-variants.{Numeric, Alphabetic, Alphanumeric}
-use Rattle.dictionary.specs.declared.Limit.{Limit}
-use Rattle.dictionary.specs.declared.Limit.the-variants.{UpTo, NoLimit}
+use Rattle.dictionary.specs.declared.Greatest.{Greatest}
+use Rattle.dictionary.specs.declared.Greatest.the-variants.{UpTo, NoLimit}
 use Rattle.dictionary.specs.declared.Row.{Row}
 use Rattle.dictionary.specs.declared.Field.{Field}
+use Rattle.refusal.specs.Classes.{between, digit, upper}
 
 abbrev pub Dictionary : Type 0
 Dictionary = List Row
 
-abbrev pub between : ℕ → ℕ → ℕ → Bool
-between a b c = leb a c && leb c b
-
-abbrev pub digit : ℕ → Bool
-digit c = between 48 57 c
-
-abbrev pub upper : ℕ → Bool
-upper c = between 65 90 c
-
--- Numérique is 0-9. Alphabétique is A-Z and space. Alphanumérique is characters 32 to 95.
+-- the types Numérique, Alphabétique and Alphanumérique; a row of any other type is taken as the last (docs/ROWS.md)
 abbrev pub inKind : Kind → ℕ → Bool
 inKind Numeric c = digit c
 inKind Alphabetic c = upper c || eqb c 32
@@ -36,17 +28,17 @@ inKind Alphanumeric c = between 32 95 c
 unfoldable pub allowed : Row → (chars : List ℕ) → ℕ → Bool
 allowed r chars c = inKind (r .kind) c
 
-abbrev pub isLimit : Limit → ℕ → Bool
-isLimit (UpTo n) m = eqb m n
-isLimit NoLimit m = false
+abbrev pub isGreatest : Greatest → ℕ → Bool
+isGreatest (UpTo n) m = eqb m n
+isGreatest NoLimit m = false
 
 -- fixed length: least equals greatest
 abbrev pub fixed : Row → Bool
-fixed r = isLimit (r .greatest) (r .least)
+fixed r = isGreatest (r .greatest) (r .least)
 
 -- the data have the greatest length
 abbrev pub full : Row → List ℕ → Bool
-full r chars = isLimit (r .greatest) (length chars)
+full r chars = isGreatest (r .greatest) (length chars)
 
 -- a row and its number
 pub record Numbered : Type 0 where
@@ -64,18 +56,14 @@ rowAt [] n i = refused bad-record i
 rowAt (r ∷ d) zero i = good r
 rowAt (r ∷ d) (suc n) i = rowAt d n i
 
--- identifiers that are distinct, and hold no separator
-unfoldable pub listed : (a b : ℕ) → Dictionary → Bool
-listed a b [] = false
-listed a b (r ∷ d) = (eqb a (r .first) && eqb b (r .second)) || listed a b d
+-- each identifier is above the one before: they rise, digits before letters, so each stands once
+abbrev pub rank : Row → ℕ
+rank r = 256 * r .first + r .second
 
-unfoldable pub distinct : Dictionary → Bool
-distinct [] = true
-distinct (r ∷ d) = not (listed (r .first) (r .second) d) && distinct d
-
-unfoldable pub plain : Dictionary → Bool
-plain [] = true
-plain (r ∷ d) = (leb 32 (r .first) && leb 32 (r .second)) && plain d
+unfoldable pub rising : Dictionary → Bool
+rising [] = true
+rising (r ∷ []) = true
+rising (r ∷ q ∷ d) = ltb (rank r) (rank q) && rising (q ∷ d)
 
 -- a record of zeros: what stands where there is no field
 abbrev pub noField : Field
@@ -84,3 +72,12 @@ noField = record { row = 0; cut = false; start = 0; length = 0 }
 -- the rows that fields name
 abbrev pub rowsOf : List Field → List ℕ
 rowsOf l = map (λ (f : Field). f .row) l
+
+-- identifiers that are distinct
+unfoldable pub listed : (a b : ℕ) → Dictionary → Bool
+listed a b [] = false
+listed a b (r ∷ d) = (eqb a (r .first) && eqb b (r .second)) || listed a b d
+
+unfoldable pub distinct : Dictionary → Bool
+distinct [] = true
+distinct (r ∷ d) = not (listed (r .first) (r .second) d) && distinct d

@@ -1,3 +1,3 @@
 pub mod Dictionary
 pub mod Rows
-pub mod Lookup
+pub mod inner

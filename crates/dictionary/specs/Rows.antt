@@ -4,12 +4,12 @@ use Prim.Native.Nat.{ℕ}
 use mathlib.Core.List.{[], _∷_}
 use Rattle.dictionary.specs.declared.Kind.{Kind}
 use Rattle.dictionary.specs.declared.Kind.the-variants.{Numeric, Alphabetic, Alphanumeric}
-use Rattle.dictionary.specs.declared.Limit.{Limit}
-use Rattle.dictionary.specs.declared.Limit.the-variants.{UpTo, NoLimit}
+use Rattle.dictionary.specs.declared.Greatest.{Greatest}
+use Rattle.dictionary.specs.declared.Greatest.the-variants.{UpTo, NoLimit}
 use Rattle.dictionary.specs.declared.Row.{Row}
 use Rattle.dictionary.specs.Dictionary.{Dictionary}
 
-abbrev pub row : (first second least : ℕ) → Limit → Kind → Row
+abbrev pub row : (first second least : ℕ) → Greatest → Kind → Row
 row a b n m k = record { first = a; second = b; least = n; greatest = m; kind = k }
 
 unfoldable pub rows : Dictionary

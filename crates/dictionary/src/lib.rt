@@ -5,9 +5,10 @@ ghost use mathlib.Core.Path.{_≡_};
 ghost use Prim.Native.Nat.{ℕ, _+_, _<_, _≤_, min};
 ghost use lib.ListN.{length, getD};
 ghost use Rattle.refusal.specs.Limits.{most-fields};
-ghost use Rattle.dictionary.specs.Dictionary.{between as isBetween, inKind, isLimit, fixed, allowed, find, rowAt};
+ghost use Rattle.dictionary.specs.Dictionary.{inKind, isGreatest, fixed, allowed, find, rowAt};
 ghost use Rattle.dictionary.specs.Rows.{rows, rowCount};
-ghost use Rattle.dictionary.specs.Lookup.{limitOf, kindOf, rowTable, baseOf, digitOf, placeOf, noRow, foundSays, rowFoundSays, soFar};
+ghost use Rattle.dictionary.specs.inner.Lookup.{greatestOf, kindOf, rowTable, baseOf, digitOf, placeOf, noRow, foundSays, rowFoundSays, soFar};
+ghost use Rattle.refusal.specs.Classes.{between as isBetween};
 
 // The rows are numbered from 0, and stand in the table with five numbers each.
 pub const ROW_COUNT: usize = 110;
@@ -21,7 +22,7 @@ pub enum Kind {
 }
 
 // The greatest length of a row's data, or none.
-pub enum Limit {
+pub enum Greatest {
     UpTo(usize),
     NoLimit,
 }
@@ -30,7 +31,7 @@ pub struct Row {
     pub first: u8,
     pub second: u8,
     pub least: usize,
-    pub greatest: Limit,
+    pub greatest: Greatest,
     pub kind: Kind,
 }
 
@@ -80,7 +81,7 @@ pub fn between(a: u8, b: u8, c: u8) -> bool
     c <= b
 }
 
-// "Numérique is 0-9. Alphabétique is A-Z and space. Alphanumérique is characters 32 to 95."
+// Digits; capital letters and the space; the characters from the space to the underscore.
 pub fn in_kind(k: Kind, c: u8) -> bool
     ensures { λ r. ⌜ r ≡ inKind k c ⌝ }
 {
@@ -96,21 +97,21 @@ pub fn in_kind(k: Kind, c: u8) -> bool
     }
 }
 
-pub fn is_limit(m: Limit, n: usize) -> bool
-    ensures { λ r. ⌜ r ≡ isLimit m n ⌝ }
+pub fn is_greatest(m: Greatest, n: usize) -> bool
+    ensures { λ r. ⌜ r ≡ isGreatest m n ⌝ }
 {
     match m {
-        Limit::UpTo(k) => n == k,
-        Limit::NoLimit => false,
+        Greatest::UpTo(k) => n == k,
+        Greatest::NoLimit => false,
     }
 }
 
-// "Fixed length (least equals greatest)"
+// A length is fixed where least and greatest are one.
 pub fn is_fixed(r: Row) -> bool
     ensures { λ x. ⌜ x ≡ fixed r ⌝ }
 {
     let m = r.greatest;
-    is_limit(m, r.least)
+    is_greatest(m, r.least)
 }
 
 // May c stand behind the n characters of data that start at `start`? The type decides, whatever the data so far.
@@ -129,13 +130,13 @@ fn wide(x: u8) -> usize
 }
 
 // A greatest length as the table has it.
-fn limit_of(x: u8) -> Limit
-    ensures { λ r. ⌜ r ≡ limitOf x ⌝ }
+fn greatest_of(x: u8) -> Greatest
+    ensures { λ r. ⌜ r ≡ greatestOf x ⌝ }
 {
     if x == 255 {
-        return Limit::NoLimit;
+        return Greatest::NoLimit;
     }
-    Limit::UpTo(wide(x))
+    Greatest::UpTo(wide(x))
 }
 
 // A type as the table has it.
@@ -164,7 +165,7 @@ fn row_of(table: &[u8; TABLE_SIZE], n: usize) -> Row
     ensures { λ r. ⌜ r ≡ getD rows n noRow ⌝ }
 {
     let p = 5 * n;
-    let greatest = limit_of(table[p + 3]);
+    let greatest = greatest_of(table[p + 3]);
     let kind = kind_of(table[p + 4]);
     Row {
         first: table[p],

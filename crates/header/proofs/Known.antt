@@ -13,12 +13,12 @@ use Rattle.refusal.specs.Numbers.{header-too-short, not-dc}
 use Rattle.refusal.specs.Chars.{charsAt}
 use Rattle.refusal.specs.declared.Refusal.{Refusal}
 use Rattle.refusal.proofs.Binds.{by-and}
-use Rattle.dictionary.specs.Dictionary.{upper}
 use Rattle.header.specs.declared.Version.{Version}
 use Rattle.header.specs.declared.Version.the-variants.{V02, V03, V04}
-use Rattle.header.specs.Header.{size, versionOf, part, perimeter01, perimeterIn, countryIn, parts, known, readHeader}
-use Rattle.header.specs.Code.{verdict, Right, tailVerdict, perimeterAt, countryAt, partsAt}
+use Rattle.header.specs.Header.{size, versionOf, part, perimeter01, parts, known, readHeader}
+use Rattle.header.specs.inner.Code.{verdict, Right, tailVerdict, perimeterAt, countryAt, partsAt, perimeterIn, countryIn}
 use Rattle.header.proofs.Parts.{parts-right, verdict-tail}
+use Rattle.refusal.specs.Classes.{upper}
 
 -- an answer whose refusal has a number is that refusal
 answer-refused : {A : Type 0} (x : Answer A) (w : Refusal) → w ≡ verdict x → (w .number ≡ 0 → ⊥) → x ≡ refused (w .number) (w .place)

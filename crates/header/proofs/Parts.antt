@@ -12,13 +12,13 @@ use borrow.Author.Tests.{ltb-true, ltb-false, eqb-true, eqb-false}
 use Rattle.refusal.specs.Answers.{Answer, good, refused, _>>=_, _>>_}
 use Rattle.refusal.specs.Numbers.{wrong-header-character, refusal}
 use Rattle.refusal.specs.Chars.{charsAt}
-use Rattle.dictionary.specs.Dictionary.{upper}
 use Rattle.header.specs.declared.Version.{Version}
 use Rattle.header.specs.declared.Version.the-variants.{V02, V03, V04}
 use Rattle.header.specs.declared.Header.{Header}
-use Rattle.header.specs.Header.{size, upperOrDigit, hex, part, number, perimeterIn, countryIn, versionChars, parts}
-use Rattle.header.specs.Code.{verdict, inPlace, Right, FirstWrong, perimeterVerdict, countryVerdict, firstOf, tailVerdict}
+use Rattle.header.specs.Header.{size, upperOrDigit, hex, part, number, versionChars, parts}
+use Rattle.header.specs.inner.Code.{verdict, inPlace, Right, FirstWrong, perimeterVerdict, countryVerdict, firstOf, tailVerdict, perimeterIn, countryIn}
 use Rattle.header.proofs.Sets.{narrow}
+use Rattle.refusal.specs.Classes.{upper}
 
 pub least-size : (v : Version) → 22 ≤ size v
 least-size V02 = omega arith
@@ -63,7 +63,7 @@ module _ (v : Version) (t : List ℕ) where
 
   -- with perimeter and country
   abbrev with : List ℕ → List ℕ → Header
-  with pe co = record { version = versionChars v; authority = charsAt 4 4 t; certificate = charsAt 4 8 t; issue = number (charsAt 4 12 t); signing = number (charsAt 4 16 t); doctype = charsAt 2 20 t; perimeter = pe; country = co }
+  with pe co = record { version = versionChars v; authority = charsAt 4 4 t; certificate = charsAt 4 8 t; «issue_day» = number (charsAt 4 12 t); «signing_day» = number (charsAt 4 16 t); doctype = charsAt 2 20 t; perimeter = pe; country = co }
 
   pub parts-right : Right t 4 22 → parts v t ≡ (perimeterIn v t >>= λ pe. countryIn v t >>= λ co. good (with pe co))
   unfolding parts

@@ -9,9 +9,9 @@ use lib.Dec.{ltb, leb}
 use lib.ListN.{getD}
 use borrow.Author.Tests.{ltb-true, ltb-false, leb-true, lt-ltb, le-ltb, le-leb, lt-leb}
 use Rattle.refusal.proofs.Binds.{by-and, by-or}
-use Rattle.dictionary.specs.Dictionary.{upper, digit, between}
 use Rattle.header.specs.Header.{upperOrDigit, hex}
-use Rattle.header.specs.Code.{inPlace, Right}
+use Rattle.header.specs.inner.Code.{inPlace, Right}
+use Rattle.refusal.specs.Classes.{upper, digit, between}
 
 pub either-upper : (c : ℕ) → upper c ≡ true → true ≡ upperOrDigit c
 either-upper c e = rw e

@@ -14,8 +14,8 @@ use Rattle.refusal.proofs.Chars.{chars-at}
 use Rattle.header.specs.declared.Version.{Version}
 use Rattle.header.specs.declared.Version.the-variants.{V02, V03, V04}
 use Rattle.header.specs.declared.Header.{Header}
-use Rattle.header.specs.Header.{size, versionOf, versionChars, digits, headerChars, parts, writeHeader, keptPerimeter, keptCountry}
-use Rattle.header.specs.Code.{verdict}
+use Rattle.header.specs.Header.{size, versionOf, versionChars, digits, headerChars, parts, writeHeader}
+use Rattle.header.specs.inner.Code.{verdict, keptPerimeter, keptCountry}
 
 pub most-size : (v : Version) → size v ≤ 26
 most-size V02 = omega arith
@@ -49,21 +49,21 @@ four-long n = refl
 -- THE CHARACTERS OF A HEADER: what the version lacks is left out
 module _ (h : Header) (la : length (h .authority) ≡ 4) (lb : length (h .certificate) ≡ 4) (lt : length (h .doctype) ≡ 2) where
   abbrev all : Version → List ℕ → List ℕ → List ℕ
-  all v p c = row (versionChars v) (h .authority) (h .certificate) (digits (h .issue)) (digits (h .signing)) (h .doctype) (two-long v) la lb (four-long (h .issue)) (four-long (h .signing)) lt (getD p 0 0 ∷ getD p 1 0 ∷ getD c 0 0 ∷ getD c 1 0 ∷ [])
+  all v p c = row (versionChars v) (h .authority) (h .certificate) (digits (h .«issue_day»)) (digits (h .«signing_day»)) (h .doctype) (two-long v) la lb (four-long (h .«issue_day»)) (four-long (h .«signing_day»)) lt (getD p 0 0 ∷ getD p 1 0 ∷ getD c 0 0 ∷ getD c 1 0 ∷ [])
 
-  together : (v : Version) (rest : List ℕ) → row (versionChars v) (h .authority) (h .certificate) (digits (h .issue)) (digits (h .signing)) (h .doctype) (two-long v) la lb (four-long (h .issue)) (four-long (h .signing)) lt rest
-      ≡ 68 ∷ 67 ∷ versionChars v ++ (h .authority ++ (h .certificate ++ (digits (h .issue) ++ (digits (h .signing) ++ (h .doctype ++ rest)))))
-  together v rest = joined (versionChars v) (h .authority) (h .certificate) (digits (h .issue)) (digits (h .signing)) (h .doctype) (two-long v) la lb (four-long (h .issue)) (four-long (h .signing)) lt rest
+  together : (v : Version) (rest : List ℕ) → row (versionChars v) (h .authority) (h .certificate) (digits (h .«issue_day»)) (digits (h .«signing_day»)) (h .doctype) (two-long v) la lb (four-long (h .«issue_day»)) (four-long (h .«signing_day»)) lt rest
+      ≡ 68 ∷ 67 ∷ versionChars v ++ (h .authority ++ (h .certificate ++ (digits (h .«issue_day») ++ (digits (h .«signing_day») ++ (h .doctype ++ rest)))))
+  together v rest = joined (versionChars v) (h .authority) (h .certificate) (digits (h .«issue_day»)) (digits (h .«signing_day»)) (h .doctype) (two-long v) la lb (four-long (h .«issue_day»)) (four-long (h .«signing_day»)) lt rest
 
   of-kept : (v : Version) → length (keptPerimeter v h) ≡ 2 → length (keptCountry v h) ≡ 2 → take (size v) (all v (keptPerimeter v h) (keptCountry v h)) ≡ headerChars v h
   unfolding headerChars
   of-kept V02 lp lc = together V02 []
   of-kept V03 lp lc = together V03 (getD (h .perimeter) 0 0 ∷ getD (h .perimeter) 1 0 ∷ [])
-      ∙ ap (λ x. 68 ∷ 67 ∷ versionChars V03 ++ (h .authority ++ (h .certificate ++ (digits (h .issue) ++ (digits (h .signing) ++ (h .doctype ++ x)))))) (spelled-out 2 (h .perimeter) lp ∙ sym (append-nil (h .perimeter)))
+      ∙ ap (λ x. 68 ∷ 67 ∷ versionChars V03 ++ (h .authority ++ (h .certificate ++ (digits (h .«issue_day») ++ (digits (h .«signing_day») ++ (h .doctype ++ x)))))) (spelled-out 2 (h .perimeter) lp ∙ sym (append-nil (h .perimeter)))
   of-kept V04 lp lc = together V04 (getD (h .perimeter) 0 0 ∷ getD (h .perimeter) 1 0 ∷ getD (h .country) 0 0 ∷ getD (h .country) 1 0 ∷ [])
-      ∙ (λ k. 68 ∷ 67 ∷ versionChars V04 ++ (h .authority ++ (h .certificate ++ (digits (h .issue) ++ (digits (h .signing) ++ (h .doctype ++ (spelled-out 2 (h .perimeter) lp k ++ spelled-out 2 (h .country) lc k)))))))
+      ∙ (λ k. 68 ∷ 67 ∷ versionChars V04 ++ (h .authority ++ (h .certificate ++ (digits (h .«issue_day») ++ (digits (h .«signing_day») ++ (h .doctype ++ (spelled-out 2 (h .perimeter) lp k ++ spelled-out 2 (h .country) lc k)))))))
 
-  pub header-is : (v : Version) (w i s p c : List ℕ) → w ≡ versionChars v → i ≡ digits (h .issue) → s ≡ digits (h .signing) → p ≡ keptPerimeter v h → c ≡ keptCountry v h → length p ≡ 2 → length c ≡ 2
+  pub header-is : (v : Version) (w i s p c : List ℕ) → w ≡ versionChars v → i ≡ digits (h .«issue_day») → s ≡ digits (h .«signing_day») → p ≡ keptPerimeter v h → c ≡ keptCountry v h → length p ≡ 2 → length c ≡ 2
       → take (size v) (68 ∷ 67 ∷ getD w 0 0 ∷ getD w 1 0 ∷ getD (h .authority) 0 0 ∷ getD (h .authority) 1 0 ∷ getD (h .authority) 2 0 ∷ getD (h .authority) 3 0
       ∷ getD (h .certificate) 0 0 ∷ getD (h .certificate) 1 0 ∷ getD (h .certificate) 2 0 ∷ getD (h .certificate) 3 0 ∷ getD i 0 0 ∷ getD i 1 0 ∷ getD i 2 0 ∷ getD i 3 0
       ∷ getD s 0 0 ∷ getD s 1 0 ∷ getD s 2 0 ∷ getD s 3 0 ∷ getD (h .doctype) 0 0 ∷ getD (h .doctype) 1 0 ∷ getD p 0 0 ∷ getD p 1 0 ∷ getD c 0 0 ∷ getD c 1 0 ∷ []) ≡ headerChars v h

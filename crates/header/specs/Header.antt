@@ -1,23 +1,34 @@
 -- The header (document 01, "The text"), by version: its characters and its parts.
 use Prim.Native.Nat.{ℕ, suc, _+_, _-_, _*_, _/_, _%_, _<_}
-use mathlib.Core.Bool.{Bool, _&&_, _||_}
+use mathlib.Core.Bool.{Bool, true, false, _&&_, _||_}
 use mathlib.Core.List.{List, [], _∷_, _++_}
 use mathlib.Core.Path.{_≡_}
 use lib.Dec.{ltb, leb, eqb}
-use lib.ListN.{length, getD}
+use lib.ListN.{length, getD, replicate}
 use Rattle.refusal.specs.Pick.{pick}
 use Rattle.refusal.specs.Answers.{Answer, good, refused, _>>=_, _>>_, check}
 use Rattle.refusal.specs.Numbers.{header-too-short, not-dc, unknown-version, wrong-header-character, wrong-perimeter}
-use Rattle.dictionary.specs.Dictionary.{between, digit, upper}
 use Rattle.header.specs.declared.Header.{Header}
 use Rattle.header.specs.declared.Version.{Version}
 use Rattle.header.specs.declared.Version.the-variants.{V02, V03, V04}
+use Rattle.refusal.specs.Classes.{between, digit, upper}
 
--- 22 characters in version 02. Version 03 adds the perimeter, making 24. Version 04 adds a country, making 26.
+-- the characters of a header: version 03 has a perimeter more than version 02, and version 04 a country as well
 abbrev pub size : Version → ℕ
 size V02 = 22
 size V03 = 24
 size V04 = 26
+
+-- which version has which of the two
+abbrev pub hasPerimeter : Version → Bool
+hasPerimeter V02 = false
+hasPerimeter V03 = true
+hasPerimeter V04 = true
+
+abbrev pub hasCountry : Version → Bool
+hasCountry V02 = false
+hasCountry V03 = false
+hasCountry V04 = true
 
 -- what stands for a part that the version lacks
 abbrev pub blank : List ℕ
@@ -44,7 +55,7 @@ part (f ∷ fs) p t = do
   l ← part fs (suc p) t
   good (getD t p 0 ∷ l)
 
--- four upper-case hexadecimal digits
+-- a day is a count of days since 1 January 2000, in four hexadecimal digits with capital letters
 abbrev pub hexValue : ℕ → ℕ
 hexValue c = pick (leb c 57) (c - 48) (c - 55)
 
@@ -63,16 +74,6 @@ perimeter01 t = do
   check (eqb (getD t 22 0) 48 && eqb (getD t 23 0) 49) wrong-perimeter 22
   good (48 ∷ 49 ∷ [])
 
-abbrev pub perimeterIn : Version → (t : List ℕ) → Answer (List ℕ)
-perimeterIn V02 t = good blank
-perimeterIn V03 t = perimeter01 t
-perimeterIn V04 t = perimeter01 t
-
-abbrev pub countryIn : Version → (t : List ℕ) → Answer (List ℕ)
-countryIn V02 t = good blank
-countryIn V03 t = good blank
-countryIn V04 t = part (upper ∷ upper ∷ []) 24 t
-
 abbrev pub versionChars : Version → List ℕ
 versionChars V02 = 48 ∷ 50 ∷ []
 versionChars V03 = 48 ∷ 51 ∷ []
@@ -83,12 +84,12 @@ unfoldable pub parts : Version → (t : List ℕ) → Answer Header
 parts v t = do
   authority ← part (upper ∷ upper ∷ upperOrDigit ∷ upperOrDigit ∷ []) 4 t
   certificate ← part (upperOrDigit ∷ upperOrDigit ∷ upperOrDigit ∷ upperOrDigit ∷ []) 8 t
-  issue ← part (hex ∷ hex ∷ hex ∷ hex ∷ []) 12 t
-  signing ← part (hex ∷ hex ∷ hex ∷ hex ∷ []) 16 t
+  «issue_day» ← part (hex ∷ hex ∷ hex ∷ hex ∷ []) 12 t
+  «signing_day» ← part (hex ∷ hex ∷ hex ∷ hex ∷ []) 16 t
   doctype ← part (upperOrDigit ∷ upperOrDigit ∷ []) 20 t
-  perimeter ← perimeterIn v t
-  country ← countryIn v t
-  good (record { version = versionChars v; authority = authority; certificate = certificate; issue = number issue; signing = number signing; doctype = doctype; perimeter = perimeter; country = country })
+  perimeter ← pick (hasPerimeter v) (perimeter01 t) (good blank)
+  country ← pick (hasCountry v) (part (upper ∷ upper ∷ []) 24 t) (good blank)
+  good (record { version = versionChars v; authority = authority; certificate = certificate; «issue_day» = number «issue_day»; «signing_day» = number «signing_day»; doctype = doctype; perimeter = perimeter; country = country })
 
 -- a header that was read, with its version
 pub record Headed : Type 0 where
@@ -110,22 +111,12 @@ readHeader t = do
   v ← versionOf (getD t 2 0) (getD t 3 0)
   known v t
 
-abbrev pub perimeterOf : Version → Header → List ℕ
-perimeterOf V02 h = []
-perimeterOf V03 h = h .perimeter
-perimeterOf V04 h = h .perimeter
-
-abbrev pub countryOf : Version → Header → List ℕ
-countryOf V02 h = []
-countryOf V03 h = []
-countryOf V04 h = h .country
-
 -- the header's characters
 unfoldable pub headerChars : Version → Header → List ℕ
 headerChars v h =
-    68 ∷ 67 ∷ versionChars v ++ (h .authority ++ (h .certificate ++ (digits (h .issue) ++ (digits (h .signing) ++ (h .doctype ++ (perimeterOf v h ++ countryOf v h))))))
+    68 ∷ 67 ∷ versionChars v ++ (h .authority ++ (h .certificate ++ (digits (h .«issue_day») ++ (digits (h .«signing_day») ++ (h .doctype ++ (pick (hasPerimeter v) (h .perimeter) [] ++ pick (hasCountry v) (h .country) []))))))
 
--- WRITING A HEADER: 12, and what reading its characters would refuse
+-- WRITING A HEADER: 12, and what reading its characters would refuse; since DC and all parts are there, 10 and 11 don't occur
 abbrev pub writeHeader : Header → Answer (List ℕ)
 writeHeader h = do
   v ← versionOf (getD (h .version) 0 0) (getD (h .version) 1 0)
@@ -137,25 +128,15 @@ pub record Shaped (h : Header) : Type 0 where
   pub version : length (h .version) ≡ 2
   pub authority : length (h .authority) ≡ 4
   pub certificate : length (h .certificate) ≡ 4
-  pub issue : h .issue < 65536
-  pub signing : h .signing < 65536
+  pub «issue_day» : h .«issue_day» < 65536
+  pub «signing_day» : h .«signing_day» < 65536
   pub doctype : length (h .doctype) ≡ 2
   pub perimeter : length (h .perimeter) ≡ 2
   pub country : length (h .country) ≡ 2
 
 -- the parts that the version has
-abbrev pub keptPerimeter : Version → Header → List ℕ
-keptPerimeter V02 h = blank
-keptPerimeter V03 h = h .perimeter
-keptPerimeter V04 h = h .perimeter
-
-abbrev pub keptCountry : Version → Header → List ℕ
-keptCountry V02 h = blank
-keptCountry V03 h = blank
-keptCountry V04 h = h .country
-
 abbrev pub kept : Version → Header → Header
-kept v h = record { version = h .version; authority = h .authority; certificate = h .certificate; issue = h .issue; signing = h .signing; doctype = h .doctype; perimeter = keptPerimeter v h; country = keptCountry v h }
+kept v h = record { version = h .version; authority = h .authority; certificate = h .certificate; «issue_day» = h .«issue_day»; «signing_day» = h .«signing_day»; doctype = h .doctype; perimeter = pick (hasPerimeter v) (h .perimeter) blank; country = pick (hasCountry v) (h .country) blank }
 
 abbrev pub keptBy : Answer Version → Header → Header
 keptBy (good v) h = kept v h
@@ -163,3 +144,7 @@ keptBy (refused k p) h = h
 
 abbrev pub theParts : Header → Header
 theParts h = keptBy (versionOf (getD (h .version) 0 0) (getD (h .version) 1 0)) h
+
+-- a refused header is nothing but zeros
+abbrev pub noHeader : Header
+noHeader = record { version = blank; authority = replicate 4 0; certificate = replicate 4 0; «issue_day» = 0; «signing_day» = 0; doctype = blank; perimeter = blank; country = blank }

@@ -1,2 +1,2 @@
 pub mod Header
-pub mod Code
+pub mod inner

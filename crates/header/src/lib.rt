@@ -2,13 +2,13 @@
 ghost use mathlib.Core.Bool.{true, false};
 ghost use mathlib.Core.Path.{_≡_};
 ghost use Prim.Native.Nat.{ℕ, _+_, _≤_, _<_};
-ghost use lib.ListN.{length, getD, take, drop};
+ghost use lib.ListN.{length, getD, take};
 ghost use Rattle.refusal.specs.Over.{over};
 ghost use Rattle.refusal.specs.Chars.{charsAt};
 ghost use Rattle.refusal.specs.Answers.{refused};
-ghost use Rattle.dictionary.specs.Dictionary.{upper};
-ghost use Rattle.header.specs.Header.{versionOf, upperOrDigit, hex, hexValue, hexChar, number, digits, versionChars, size, parts, known, readHeader, headerChars, writeHeader, keptPerimeter, keptCountry};
-ghost use Rattle.header.specs.Code.{inPlace, Right, FirstWrong, versionSays, verdict, perimeterVerdict, countryVerdict, firstOf, tailVerdict, perimeterAt, countryAt, partsAt, headerAnswer};
+ghost use Rattle.header.specs.Header.{versionOf, upperOrDigit, hex, hexValue, hexChar, number, digits, versionChars, size, parts, known, readHeader, headerChars, writeHeader};
+ghost use Rattle.header.specs.inner.Code.{inPlace, Right, FirstWrong, versionSays, verdict, perimeterVerdict, countryVerdict, firstOf, tailVerdict, perimeterAt, countryAt, partsAt, headerAnswer, keptPerimeter, keptCountry};
+ghost use Rattle.refusal.specs.Classes.{upper};
 
 // The parts of a header, the days of issue and of signing as numbers; a part that the version lacks is two zeros after reading.
 #[repr(C)]
@@ -16,8 +16,8 @@ pub struct Header {
     pub version: [u8; 2],
     pub authority: [u8; 4],
     pub certificate: [u8; 4],
-    pub issue: u16,
-    pub signing: u16,
+    pub issue_day: u16,
+    pub signing_day: u16,
     pub doctype: [u8; 2],
     pub perimeter: [u8; 2],
     pub country: [u8; 2],
@@ -277,8 +277,8 @@ fn read_parts(text: &[u8], v: Version) -> Header
         version: version_chars(v),
         authority: four(text, 4),
         certificate: four(text, 8),
-        issue: hex_number(text, 12),
-        signing: hex_number(text, 16),
+        issue_day: hex_number(text, 12),
+        signing_day: hex_number(text, 16),
         doctype: two(text, 20),
         perimeter: perimeter_at(text, v),
         country: country_at(text, v),
@@ -298,8 +298,8 @@ fn refuse_header(number: u8, place: usize) -> HeaderRead
             version: [0; 2],
             authority: [0; 4],
             certificate: [0; 4],
-            issue: 0,
-            signing: 0,
+            issue_day: 0,
+            signing_day: 0,
             doctype: [0; 2],
             perimeter: [0; 2],
             country: [0; 2],
@@ -399,8 +399,8 @@ fn header_chars(h: Header, v: Version) -> [u8; 26]
     let w = version_chars(v);
     let a = h.authority;
     let b = h.certificate;
-    let i = hex_digits(h.issue);
-    let s = hex_digits(h.signing);
+    let i = hex_digits(h.issue_day);
+    let s = hex_digits(h.signing_day);
     let t = h.doctype;
     let p = kept_perimeter(h, v);
     let c = kept_country(h, v);

@@ -14,11 +14,12 @@ use Rattle.refusal.specs.Answers.{good}
 use Rattle.refusal.specs.Numbers.{header-too-short, not-dc, wrong-header-character, wrong-perimeter}
 use Rattle.refusal.proofs.Tests.{by-test}
 use Rattle.refusal.proofs.Binds.{never, same-good, by-bind, by-check, by-seq, by-and, by-or}
-use Rattle.dictionary.specs.Dictionary.{between, upper, digit}
 use Rattle.header.specs.declared.Version.{Version}
 use Rattle.header.specs.declared.Version.the-variants.{V02, V03, V04}
 use Rattle.header.specs.declared.Header.{Header}
-use Rattle.header.specs.Header.{size, upperOrDigit, hex, versionOf, part, hexValue, hexChar, number, digits, perimeter01, perimeterIn, countryIn, versionChars, parts, Headed, known, readHeader, perimeterOf, countryOf, headerChars, writeHeader, Shaped, kept, keptPerimeter, keptCountry}
+use Rattle.header.specs.Header.{size, upperOrDigit, hex, versionOf, part, hexValue, hexChar, number, digits, perimeter01, versionChars, parts, Headed, known, readHeader, headerChars, writeHeader, Shaped, kept}
+use Rattle.header.specs.inner.Code.{perimeterIn, countryIn, perimeterOf, countryOf, keptPerimeter, keptCountry}
+use Rattle.refusal.specs.Classes.{between, upper, digit}
 
 -- the characters of a part stand in the text
 pub part-is : (fs : List (ℕ → Bool)) (p : ℕ) (t x : List ℕ) → part fs p t ≡ good x → p + length fs ≤ length t → (drop p t ≡ x ++ drop (p + length fs) t) × (length x ≡ length fs)
@@ -116,10 +117,10 @@ pub record PartsOf (v : Version) (t : List ℕ) (h : Header) : Type 0 where
   pub version : h .version ≡ versionChars v
   pub authority : part (upper ∷ upper ∷ upperOrDigit ∷ upperOrDigit ∷ []) 4 t ≡ good (h .authority)
   pub certificate : part (upperOrDigit ∷ upperOrDigit ∷ upperOrDigit ∷ upperOrDigit ∷ []) 8 t ≡ good (h .certificate)
-  pub issue : part (hex ∷ hex ∷ hex ∷ hex ∷ []) 12 t ≡ good issued
-  pub issue-is : h .issue ≡ number issued
-  pub signing : part (hex ∷ hex ∷ hex ∷ hex ∷ []) 16 t ≡ good signed
-  pub signing-is : h .signing ≡ number signed
+  pub «issue_day» : part (hex ∷ hex ∷ hex ∷ hex ∷ []) 12 t ≡ good issued
+  pub issue-is : h .«issue_day» ≡ number issued
+  pub «signing_day» : part (hex ∷ hex ∷ hex ∷ hex ∷ []) 16 t ≡ good signed
+  pub signing-is : h .«signing_day» ≡ number signed
   pub doctype : part (upperOrDigit ∷ upperOrDigit ∷ []) 20 t ≡ good (h .doctype)
   pub perimeter : perimeterIn v t ≡ good (h .perimeter)
   pub country : countryIn v t ≡ good (h .country)
@@ -134,7 +135,7 @@ parts-of v t h e =
     by-bind (part (upperOrDigit ∷ upperOrDigit ∷ []) 20 t) _ e λ ty e₅ e.
     by-bind (perimeterIn v t) _ e λ pe e₆ e.
     by-bind (countryIn v t) _ e λ co e₇ e.
-    rw (← same-good e) (record { issued = is; signed = si; version = refl; authority = e₁; certificate = e₂; issue = e₃; issue-is = refl; signing = e₄; signing-is = refl; doctype = e₅; perimeter = e₆; country = e₇ })
+    rw (← same-good e) (record { issued = is; signed = si; version = refl; authority = e₁; certificate = e₂; «issue_day» = e₃; issue-is = refl; «signing_day» = e₄; signing-is = refl; doctype = e₅; perimeter = e₆; country = e₇ })
 
 right : (w a c i s y q rest : List ℕ) → w ++ (a ++ (c ++ (i ++ (s ++ (y ++ (q ++ rest)))))) ≡ (w ++ (a ++ (c ++ (i ++ (s ++ (y ++ q)))))) ++ rest
 right w a c i s y q rest = simp append-assoc
@@ -151,12 +152,12 @@ header-stands v t h p s front =
     let l : 22 ≤ length t = omega (arith, least-size v) in
     let d4 : drop 4 t ≡ h .authority ++ drop 8 t = part-is _ 4 t (h .authority) (p .authority) (omega arith) .0 in
     let d8 : drop 8 t ≡ h .certificate ++ drop 12 t = part-is _ 8 t (h .certificate) (p .certificate) (omega arith) .0 in
-    let d12 : drop 12 t ≡ p .issued ++ drop 16 t = part-is _ 12 t (p .issued) (p .issue) (omega arith) .0 in
-    let d16 : drop 16 t ≡ p .signed ++ drop 20 t = part-is _ 16 t (p .signed) (p .signing) (omega arith) .0 in
+    let d12 : drop 12 t ≡ p .issued ++ drop 16 t = part-is _ 12 t (p .issued) (p .«issue_day») (omega arith) .0 in
+    let d16 : drop 16 t ≡ p .signed ++ drop 20 t = part-is _ 16 t (p .signed) (p .«signing_day») (omega arith) .0 in
     let d20 : drop 20 t ≡ h .doctype ++ drop 22 t = part-is _ 20 t (h .doctype) (p .doctype) (omega arith) .0 in
     let d22 = tail-is v h t s (p .perimeter) (p .country) in
-    let i : digits (h .issue) ≡ p .issued = ap digits (p .issue-is) ∙ day-is 12 t (p .issued) (p .issue) in
-    let j : digits (h .signing) ≡ p .signed = ap digits (p .signing-is) ∙ day-is 16 t (p .signed) (p .signing) in
+    let i : digits (h .«issue_day») ≡ p .issued = ap digits (p .issue-is) ∙ day-is 12 t (p .issued) (p .«issue_day») in
+    let j : digits (h .«signing_day») ≡ p .signed = ap digits (p .signing-is) ∙ day-is 16 t (p .signed) (p .«signing_day») in
     front ∙ ap (λ l. 68 ∷ 67 ∷ versionChars v ++ l)
     (d4 ∙ ap (λ l. h .authority ++ l) (d8 ∙ ap (λ l. h .certificate ++ l) (d12 ∙ ap (λ l. p .issued ++ l) (d16 ∙ ap (λ l. p .signed ++ l) (d20 ∙ ap (λ l. h .doctype ++ l) d22)))))
     ∙ rw (i, j) (right (68 ∷ 67 ∷ versionChars v) (h .authority) (h .certificate) (p .issued) (p .signed) (h .doctype) (perimeterOf v h ++ countryOf v h) (drop (size v) t))
@@ -261,8 +262,8 @@ tail-same V04 h g t s l e f q = (
   part-same (upper ∷ upper ∷ []) 24 t (g .country) (h .country) [] f l (drop-next 22 2 t (h .perimeter) (h .country) q (s .perimeter) ∙ sym (append-nil (h .country))) (s .country),
 )
 
-same-header : (g h : Header) → g .version ≡ h .version → g .authority ≡ h .authority → g .certificate ≡ h .certificate → g .issue ≡ h .issue → g .signing ≡ h .signing → g .doctype ≡ h .doctype → g .perimeter ≡ h .perimeter → g .country ≡ h .country → g ≡ h
-same-header g h a b c d e f p q = λ i. record { version = a i; authority = b i; certificate = c i; issue = d i; signing = e i; doctype = f i; perimeter = p i; country = q i }
+same-header : (g h : Header) → g .version ≡ h .version → g .authority ≡ h .authority → g .certificate ≡ h .certificate → g .«issue_day» ≡ h .«issue_day» → g .«signing_day» ≡ h .«signing_day» → g .doctype ≡ h .doctype → g .perimeter ≡ h .perimeter → g .country ≡ h .country → g ≡ h
+same-header g h a b c d e f p q = λ i. record { version = a i; authority = b i; certificate = c i; «issue_day» = d i; «signing_day» = e i; doctype = f i; perimeter = p i; country = q i }
 
 two-chars : (l : List ℕ) → length l ≡ 2 → l ≡ getD l 0 0 ∷ getD l 1 0 ∷ []
 two-chars [] h = absurd (omega arith)
@@ -276,9 +277,9 @@ chars-length v h s =
     let y = h .doctype ++ (perimeterOf v h ++ countryOf v h) in
     omega (
       arith,
-      four-front v (h .authority ++ (h .certificate ++ (digits (h .issue) ++ (digits (h .signing) ++ y)))),
-      length-append (h .authority) (h .certificate ++ (digits (h .issue) ++ (digits (h .signing) ++ y))),
-      length-append (h .certificate) (digits (h .issue) ++ (digits (h .signing) ++ y)),
+      four-front v (h .authority ++ (h .certificate ++ (digits (h .«issue_day») ++ (digits (h .«signing_day») ++ y)))),
+      length-append (h .authority) (h .certificate ++ (digits (h .«issue_day») ++ (digits (h .«signing_day») ++ y))),
+      length-append (h .certificate) (digits (h .«issue_day») ++ (digits (h .«signing_day») ++ y)),
       length-append (h .doctype) (perimeterOf v h ++ countryOf v h),
       length-append (perimeterOf v h) (countryOf v h),
       tail-length v h s,
@@ -309,18 +310,18 @@ module _ (v : Version) (h g : Header) (s : Shaped h) (ver : h .version ≡ versi
       let y = perimeterOf v h ++ countryOf v h in
       let len = chars-length v h s in
       let l : 22 ≤ length t = omega (arith, least-size v, len) in
-      let d4 : drop 4 t ≡ h .authority ++ (h .certificate ++ (digits (h .issue) ++ (digits (h .signing) ++ (h .doctype ++ y)))) = drop-front v _ in
-      let d8 : drop 8 t ≡ h .certificate ++ (digits (h .issue) ++ (digits (h .signing) ++ (h .doctype ++ y))) = drop-next 4 4 t (h .authority) _ d4 (s .authority) in
-      let d12 : drop 12 t ≡ digits (h .issue) ++ (digits (h .signing) ++ (h .doctype ++ y)) = drop-next 8 4 t (h .certificate) _ d8 (s .certificate) in
-      let d16 : drop 16 t ≡ digits (h .signing) ++ (h .doctype ++ y) = drop-next 12 4 t (digits (h .issue)) _ d12 (four-digits (h .issue)) in
-      let d20 : drop 20 t ≡ h .doctype ++ y = drop-next 16 4 t (digits (h .signing)) _ d16 (four-digits (h .signing)) in
+      let d4 : drop 4 t ≡ h .authority ++ (h .certificate ++ (digits (h .«issue_day») ++ (digits (h .«signing_day») ++ (h .doctype ++ y)))) = drop-front v _ in
+      let d8 : drop 8 t ≡ h .certificate ++ (digits (h .«issue_day») ++ (digits (h .«signing_day») ++ (h .doctype ++ y))) = drop-next 4 4 t (h .authority) _ d4 (s .authority) in
+      let d12 : drop 12 t ≡ digits (h .«issue_day») ++ (digits (h .«signing_day») ++ (h .doctype ++ y)) = drop-next 8 4 t (h .certificate) _ d8 (s .certificate) in
+      let d16 : drop 16 t ≡ digits (h .«signing_day») ++ (h .doctype ++ y) = drop-next 12 4 t (digits (h .«issue_day»)) _ d12 (four-digits (h .«issue_day»)) in
+      let d20 : drop 20 t ≡ h .doctype ++ y = drop-next 16 4 t (digits (h .«signing_day»)) _ d16 (four-digits (h .«signing_day»)) in
       let d22 : drop 22 t ≡ y = drop-next 20 2 t (h .doctype) y d20 (s .doctype) in
       let e = tail-same v h g t s (omega (arith, len)) (p .perimeter) (p .country) d22 in
       same-header g (kept v h) (p .version ∙ sym ver)
       (part-same _ 4 t (g .authority) (h .authority) _ (p .authority) (omega arith) d4 (s .authority))
       (part-same _ 8 t (g .certificate) (h .certificate) _ (p .certificate) (omega arith) d8 (s .certificate))
-      (p .issue-is ∙ ap number (part-same _ 12 t (p .issued) (digits (h .issue)) _ (p .issue) (omega arith) d12 (four-digits (h .issue))) ∙ day-back (h .issue) (s .issue))
-      (p .signing-is ∙ ap number (part-same _ 16 t (p .signed) (digits (h .signing)) _ (p .signing) (omega arith) d16 (four-digits (h .signing))) ∙ day-back (h .signing) (s .signing))
+      (p .issue-is ∙ ap number (part-same _ 12 t (p .issued) (digits (h .«issue_day»)) _ (p .«issue_day») (omega arith) d12 (four-digits (h .«issue_day»))) ∙ day-back (h .«issue_day») (s .«issue_day»))
+      (p .signing-is ∙ ap number (part-same _ 16 t (p .signed) (digits (h .«signing_day»)) _ (p .«signing_day») (omega arith) d16 (four-digits (h .«signing_day»))) ∙ day-back (h .«signing_day») (s .«signing_day»))
       (part-same _ 20 t (g .doctype) (h .doctype) y (p .doctype) (omega arith) d20 (s .doctype))
       (e .0) (e .1)
     where

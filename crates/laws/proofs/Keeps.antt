@@ -22,15 +22,15 @@ use Rattle.dictionary.specs.Dictionary.{Dictionary, Numbered, allowed, find, ro
 use Rattle.dictionary.specs.Rows.{row, rows}
 use Rattle.dictionary.specs.declared.Kind.{Kind}
 use Rattle.dictionary.specs.declared.Kind.the-variants.{Numeric, Alphabetic}
-use Rattle.dictionary.specs.declared.Limit.the-variants.{UpTo}
+use Rattle.dictionary.specs.declared.Greatest.the-variants.{UpTo}
 use Rattle.dictionary.specs.declared.Row.{Row}
 use Rattle.dictionary.specs.declared.Field.{Field}
 use Rattle.dictionary.proofs.Rows.{rows-distinct}
-use Rattle.base32.specs.Base32.{bytes, spare}
+use Rattle.base32.specs.Base32.{bytes}
 use Rattle.header.specs.Header.{size, number, part, parts, known, readHeader}
 use Rattle.text.specs.Zone.{does, readData, zone}
 use Rattle.text.specs.Signature.{signatureChars, readSignature}
-use Rattle.text.specs.Text.{atMark, Reading, reading, readText, upToSigned, signedPart, dataOf}
+use Rattle.text.specs.Text.{atMark, Received, reading, readText, signedLength, dataOf}
 use Rattle.laws.specs.Keeps.{Names, Holds, Extends, SameField, SameFields, SameReading, Stands, Keeps, NewRowsKeep}
 use Rattle.laws.proofs.Rows.{find-row}
 use Rattle.laws.proofs.Covers.{Is, find-is}
@@ -172,11 +172,11 @@ module _ (d e : Dictionary) (dd : distinct d ≡ true) (de : distinct e ≡ true
       (kept-check S (leb most-fields room) (leb most-fields room) lent-too-short 0 _ _ refl (reading-keeps t))
 
   -- in the statement's words
-  in-words : (old new : Answer Reading) → Kept (SameReading d e) old new → Stands d e old new
+  in-words : (old new : Answer Received) → Kept (SameReading d e) old new → Stands d e old new
   in-words (good a) new k = record { accepted = λ x q. rw (← same-good q) k; refused = λ n p q. not-refused q }
   in-words (refused m o) new k = record { accepted = λ x q. never q; refused = λ n p q other. go n p q other k }
     where
-      go : (n p : ℕ) → _≡_ {A = Answer Reading} (refused m o) (refused n p) → (n ≡ unknown-identifier → ⊥)
+      go : (n p : ℕ) → _≡_ {A = Answer Received} (refused m o) (refused n p) → (n ≡ unknown-identifier → ⊥)
           → (m ≡ unknown-identifier) ⊎ (new ≡ refused m o) → new ≡ refused n p
       go n p q other (inl h) = let z : n ≡ unknown-identifier = cc in absurd (other z)
       go n p q other (inr h) = h ∙ q
@@ -195,7 +195,7 @@ none-new d e k room t n p h = go (readText d room t) refl
     on m q z true w = inr (q, z ∙ ap (λ m. refused m q) (eqb-true m unknown-identifier w))
     on m q z false w = inl (z ∙ (sym (k room t .refused m q z (eqb-false m unknown-identifier w)) ∙ h))
 
-    go : (y : Answer Reading) → readText d room t ≡ y → (readText d room t ≡ refused n p) ⊎ ((q : ℕ) × (readText d room t ≡ refused unknown-identifier q))
+    go : (y : Answer Received) → readText d room t ≡ y → (readText d room t ≡ refused n p) ⊎ ((q : ℕ) × (readText d room t ≡ refused unknown-identifier q))
     go (good x) z = let a = k room t .accepted x z in not-refused (sym (a .1) ∙ h)
     go (refused m q) z = on m q z (eqb m unknown-identifier) refl
 
@@ -203,12 +203,11 @@ none-new d e k room t n p h = go (readText d room t) refl
 pub same-data : (d e : Dictionary) (f g : Field) (t : List ℕ) → SameField d e f g → dataOf t f ≡ dataOf t g
 same-data d e f g t s = ap (λ n. take n (drop (f .start) t)) (s .length) ∙ ap (λ p. take (g .length) (drop p t)) (s .start)
 
-pub same-signed : (d e : Dictionary) → Keeps d e → (room : ℕ) (t : List ℕ) (x : Reading) → readText d room t ≡ good x
-    → signedPart e room t ≡ signedPart d room t
-unfolding signedPart
+pub same-signed : (d e : Dictionary) → Keeps d e → (room : ℕ) (t : List ℕ) (x : Received) → readText d room t ≡ good x
+    → signedLength (readText e room t) ≡ signedLength (readText d room t)
 same-signed d e k room t x h =
     let a = k room t .accepted x h in
-    ap (λ y. upToSigned y t) (a .1) ∙ (ap (λ n. take n t) (sym (a .2 .signed)) ∙ sym (ap (λ y. upToSigned y t) h))
+    ap signedLength (a .1) ∙ (sym (a .2 .signed) ∙ sym (ap signedLength h))
 
 -- A NEW TABLE AT HAND extends the old one when each of the old rows, looked for in the new one by its identifier, is found unchanged. That is computed.
 abbrev pub foundRow : Answer Numbered → Answer Row
@@ -265,7 +264,7 @@ same-fields d more u (f ∷ l) (g ∷ k) s =
     let n = one-number (d ++ more) (f .row) (g .row) (h .row) u (behind d more (f .row) (h .row) (h .first)) (h .second) in
     ap (λ x. x ∷ l) (same-field f g n (h .start) (h .length) (h .cut)) ∙ ap (λ m. g ∷ m) (same-fields d more u l k (s .1))
 
-same-reading : (d more : Dictionary) → distinct (d ++ more) ≡ true → (x y : Reading) → SameReading d (d ++ more) x y → x ≡ y
+same-reading : (d more : Dictionary) → distinct (d ++ more) ≡ true → (x y : Received) → SameReading d (d ++ more) x y → x ≡ y
 same-reading d more u x y s =
     let fields = same-fields d more u (x .message .fields) (y .message .fields) (s .fields) in
     ap (λ h. record { message = record { header = h; fields = x .message .fields; signature = x .message .signature }; signed = x .signed }) (s .header)
@@ -273,7 +272,7 @@ same-reading d more u x y s =
     ∙ (ap (λ l. record { message = record { header = y .message .header; fields = y .message .fields; signature = l }; signed = x .signed }) (s .signature)
     ∙ ap (λ n. record { message = record { header = y .message .header; fields = y .message .fields; signature = y .message .signature }; signed = n }) (s .signed)))
 
-pub rows-same : (more : Dictionary) → distinct (rows ++ more) ≡ true → (room : ℕ) (t : List ℕ) (x : Reading) → readText rows room t ≡ good x
+pub rows-same : (more : Dictionary) → distinct (rows ++ more) ≡ true → (room : ℕ) (t : List ℕ) (x : Received) → readText rows room t ≡ good x
     → readText (rows ++ more) room t ≡ good x
 rows-same more s room t x e =
     let a = rows-keep more s room t .accepted x e in
@@ -298,15 +297,15 @@ text =
     (68 ∷ 67 ∷ 48 ∷ 50 ∷ 70 ∷ 82 ∷ 48 ∷ 49 ∷ 49 ∷ 50 ∷ 48 ∷ 52 ∷ 49 ∷ 48 ∷ 51 ∷ 68 ∷ 49 ∷ 48 ∷ 51 ∷ 69 ∷ 48 ∷ 49 ∷ 90 ∷ 90 ∷ 55 ∷ 31 ∷ [])
     ++ replicate 103 65
 
-abbrev read : Reading
+abbrev read : Received
 read = record {
   message = record {
     header = record {
       version = 48 ∷ 50 ∷ [];
       authority = 70 ∷ 82 ∷ 48 ∷ 49 ∷ [];
       certificate = 49 ∷ 50 ∷ 48 ∷ 52 ∷ [];
-      issue = 4157;
-      signing = 4158;
+      «issue_day» = 4157;
+      «signing_day» = 4158;
       doctype = 48 ∷ 49 ∷ [];
       perimeter = 0 ∷ 0 ∷ [];
       country = 0 ∷ 0 ∷ [];
@@ -319,5 +318,5 @@ read = record {
 
 pub then-known : map (λ d. readText d most-fields text) (rows ∷ (rows ++ (zz Numeric ∷ [])) ∷ (rows ++ (zz Alphabetic ∷ [])) ∷ [])
     ≡ refused unknown-identifier 22 ∷ good read ∷ refused wrong-character 24 ∷ []
-unfolding rows readText reading readHeader known parts part number atMark zone find readData does among allowed readSignature signatureChars bytes spare
+unfolding rows readText reading readHeader known parts part number atMark zone find readData does among allowed readSignature signatureChars bytes
 then-known = refl

@@ -5,6 +5,7 @@ pub mod Rows
 pub mod Back
 pub mod Signatures
 pub mod Heads
+pub mod Small
 pub mod Whole
 pub mod There
 pub mod Keeps

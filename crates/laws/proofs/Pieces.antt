@@ -12,9 +12,9 @@ use borrow.Author.Tests.{leb-true, le-leb, eqb-true, eqb-false}
 use Rattle.refusal.specs.Answers.{good}
 use Rattle.refusal.proofs.Tests.{by-test}
 use Rattle.refusal.proofs.Binds.{never, same-good}
-use Rattle.dictionary.specs.Dictionary.{isLimit, allowed, fixed, full}
-use Rattle.dictionary.specs.declared.Limit.{Limit}
-use Rattle.dictionary.specs.declared.Limit.the-variants.{UpTo, NoLimit}
+use Rattle.dictionary.specs.Dictionary.{isGreatest, allowed, fixed, full}
+use Rattle.dictionary.specs.declared.Greatest.{Greatest}
+use Rattle.dictionary.specs.declared.Greatest.the-variants.{UpTo, NoLimit}
 use Rattle.dictionary.specs.declared.Row.{Row}
 use Rattle.text.specs.declared.Does.{Does}
 use Rattle.text.specs.declared.Does.the-variants.{More, Ends, Cuts, Follows, Wrong}
@@ -65,19 +65,19 @@ does-follows r chars c e =
     λ _ q. by-test (eqb c 30) _ _ _ q (λ b q. cc)
     λ _ q. by-test (allowed r chars c) _ _ _ q (λ a q. cc) λ _ q. cc
 
--- one More character stays within the limit, where it was not reached
-pub within-more : (m : Limit) (n : ℕ) → within m n ≡ true → isLimit m n ≡ false → within m (suc n) ≡ true
+-- one more character stays within the limit, where it was not reached
+pub within-more : (m : Greatest) (n : ℕ) → within m n ≡ true → isGreatest m n ≡ false → within m (suc n) ≡ true
 within-more (UpTo k) n w f =
     let a : n ≤ k = leb-true n k w in
     let b : n ≡ k → ⊥ = eqb-false n k f in
     le-leb (suc n) k (omega arith)
 within-more NoLimit n w f = refl
 
-pub within-nil : (m : Limit) → within m 0 ≡ true
+pub within-nil : (m : Greatest) → within m 0 ≡ true
 within-nil (UpTo k) = le-leb 0 k (omega arith)
 within-nil NoLimit = refl
 
--- THE DATA READ, with what Ends them, stand at the front, and may be written
+-- THE DATA READ, with what ends them, stand at the front, and may be written
 pub record Stands (r : Row) (chars : List ℕ) (p : ℕ) (l : List ℕ) (x : Piece) : Type 0 where
   pub new : List ℕ
   pub is : x .chars ≡ chars ++ new

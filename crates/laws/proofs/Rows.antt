@@ -11,14 +11,16 @@ use borrow.Author.Tests.{leb-true, eqb-true, eq-eqb, ne-eqb, not-true}
 use Rattle.refusal.specs.Pick.{pick}
 use Rattle.refusal.specs.Answers.{good}
 use Rattle.refusal.proofs.Binds.{never, same-good, by-and, by-or, or-right, clash}
-use Rattle.dictionary.specs.Dictionary.{Dictionary, upper, inKind, isLimit, allowed, fixed, find, rowAt, listed, distinct, plain, rowsOf}
+use Rattle.dictionary.specs.Dictionary.{Dictionary, inKind, isGreatest, allowed, fixed, find, rowAt, rowsOf, listed, distinct}
 use Rattle.dictionary.specs.declared.Kind.{Kind}
 use Rattle.dictionary.specs.declared.Kind.the-variants.{Numeric, Alphabetic, Alphanumeric}
-use Rattle.dictionary.specs.declared.Limit.{Limit}
-use Rattle.dictionary.specs.declared.Limit.the-variants.{UpTo, NoLimit}
+use Rattle.dictionary.specs.declared.Greatest.{Greatest}
+use Rattle.dictionary.specs.declared.Greatest.the-variants.{UpTo, NoLimit}
 use Rattle.dictionary.specs.declared.Row.{Row}
 use Rattle.dictionary.specs.declared.Field.{Field}
 use Rattle.text.specs.Text.{within}
+use Rattle.dictionary.specs.inner.Lookup.{plain}
+use Rattle.refusal.specs.Classes.{upper}
 
 -- a row that stands in the dictionary is listed
 pub row-listed : (a b : ℕ) (d : Dictionary) (n i : ℕ) (r : Row) → rowAt d n i ≡ good r → (eqb a (r .first) && eqb b (r .second)) ≡ true → listed a b d ≡ true
@@ -67,18 +69,18 @@ unfolding allowed
 allowed-plain r chars c e = kind-plain (r .kind) c e
 
 -- a fixed field's data are full
-fixed-at : (m : Limit) (l n : ℕ) → within m n ≡ true → l ≤ n → isLimit m l ≡ true → isLimit m n ≡ true
+fixed-at : (m : Greatest) (l n : ℕ) → within m n ≡ true → l ≤ n → isGreatest m l ≡ true → isGreatest m n ≡ true
 fixed-at (UpTo k) l n w h e =
     let a : l ≡ k = eqb-true l k e in
     let b : n ≤ k = leb-true n k w in
     eq-eqb n k (omega arith)
 fixed-at NoLimit l n w h e = e
 
-pub fixed-full : (r : Row) (n : ℕ) → within (r .greatest) n ≡ true → r .least ≤ n → fixed r ≡ true → isLimit (r .greatest) n ≡ true
+pub fixed-full : (r : Row) (n : ℕ) → within (r .greatest) n ≡ true → r .least ≤ n → fixed r ≡ true → isGreatest (r .greatest) n ≡ true
 fixed-full r n w h e = fixed-at (r .greatest) (r .least) n w h e
 
 -- below the limit it is not reached
-pub not-yet : (m : Limit) (k n : ℕ) → within m n ≡ true → suc k ≤ n → isLimit m k ≡ false
+pub not-yet : (m : Greatest) (k n : ℕ) → within m n ≡ true → suc k ≤ n → isGreatest m k ≡ false
 not-yet (UpTo j) k n w h = let b : n ≤ j = leb-true n j w in ne-eqb k j (λ e. omega (arith, e))
 not-yet NoLimit k n w h = refl
 

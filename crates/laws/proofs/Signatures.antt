@@ -12,10 +12,12 @@ use borrow.Author.Tests.{eqb-true}
 use Rattle.refusal.specs.Answers.{good}
 use Rattle.refusal.specs.Numbers.{signature-length, spare-bits}
 use Rattle.refusal.proofs.Binds.{same-good, by-check, by-seq, by-or}
-use Rattle.base32.specs.Base32.{inAlphabet, valueOf, charOf, values, spareBits}
-use Rattle.base32.proofs.RoundTrip.{Below, Fits, values-bytes, bytes-values, spare-values, values-below, length-values, length-bytes, char-value, value-char}
+use Rattle.base32.specs.Base32.{inAlphabet, valueOf, charOf, values, Below}
+use Rattle.base32.proofs.RoundTrip.{Fits, values-bytes, bytes-values, spare-values, values-below, length-values, length-bytes, char-value, value-char}
 use Rattle.header.specs.declared.Version.{Version}
-use Rattle.text.specs.Signature.{lengthOfBytes, lengthOfChars, wrongNumber, signatureChars, readSignature, writeSignature}
+use Rattle.text.specs.Signature.{lengthOfBytes, lengthOfChars, wrongNumber, signatureChars, readSignature, writeSignature, spareOf}
+use Rattle.text.proofs.Signs.{spare-is}
+use Rattle.base32.specs.inner.Code.{spare}
 
 -- the characters of a signature
 chars-good : (v : Version) (p : ℕ) (l : List ℕ) (u : Unit {0}) → signatureChars v p l ≡ good u → (map charOf (map valueOf l) ≡ l) × Below 32 (map valueOf l)
@@ -66,11 +68,11 @@ unfolding readSignature writeSignature
 signature-covers v p l bs e =
     by-seq (signatureChars v p l) _ e λ u eu e.
     by-check (lengthOfChars (length l)) signature-length p _ e λ size e.
-    by-check (eqb (spareBits l) 0) spare-bits p _ e λ sp e.
+    by-check (eqb (spareOf l) 0) spare-bits p _ e λ sp e.
     let c = chars-good v p l u eu in
     let len : length bs ≡ 5 * length l / 8 = ap length (sym (same-good e)) ∙ length-bytes (map valueOf l) ∙ ap (λ n. 5 * n / 8) (length-map l valueOf) in
     let z = sizes (length l) (length bs) size len in
-    let back = values-bytes (map valueOf l) (c .1) (eqb-true _ _ sp) (rw (length-map l valueOf) (z .0)) in
+    let back = values-bytes (map valueOf l) (c .1) (sym (spare-is l size) ∙ eqb-true _ _ sp) (rw (length-map l valueOf) (z .0)) in
     rw (z .1) (ap good (ap (λ x. map charOf (values x)) (sym (same-good e)) ∙ ap (map charOf) back ∙ c .0))
 
 -- A SIGNATURE THAT WAS WRITTEN is read as it was
@@ -80,4 +82,6 @@ signature-back v p l bs small e =
     by-check (lengthOfBytes (length bs)) signature-length 0 _ e λ size e.
     let c = chars-back v p (values bs) (values-below bs small) in
     let len : length (map charOf (values bs)) ≡ (8 * length bs + 4) / 5 = length-map (values bs) charOf ∙ length-values bs in
-    rw (← same-good e, c .0, sizes-back _ (length bs) size len, c .1, spare-values bs) (ap good (bytes-values bs small))
+    let long = sizes-back _ (length bs) size len in
+    let none : spareOf (map charOf (values bs)) ≡ 0 = spare-is (map charOf (values bs)) long ∙ ap spare (c .1) ∙ spare-values bs in
+    rw (← same-good e, c .0, long, none, c .1) (ap good (bytes-values bs small))

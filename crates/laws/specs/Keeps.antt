@@ -10,7 +10,7 @@ use Rattle.refusal.specs.Numbers.{unknown-identifier}
 use Rattle.dictionary.specs.Dictionary.{Dictionary, rowAt, distinct}
 use Rattle.dictionary.specs.declared.Row.{Row}
 use Rattle.dictionary.specs.declared.Field.{Field}
-use Rattle.text.specs.Text.{Reading, readText}
+use Rattle.text.specs.Text.{Received, readText}
 
 -- the row with the number n is r
 abbrev pub Names : Dictionary → (n : ℕ) → Row → Type 0
@@ -41,7 +41,7 @@ SameFields d e (f ∷ fs) [] = ⊥
 SameFields d e (f ∷ fs) (g ∷ gs) = SameField d e f g × SameFields d e fs gs
 
 -- the same header, fields and signature, and a signed part of the same length
-pub record SameReading (d e : Dictionary) (x y : Reading) : Type 0 where
+pub record SameReading (d e : Dictionary) (x y : Received) : Type 0 where
   pub header : x .message .header ≡ y .message .header
   pub fields : SameFields d e (x .message .fields) (y .message .fields)
   pub signature : x .message .signature ≡ y .message .signature
@@ -49,8 +49,8 @@ pub record SameReading (d e : Dictionary) (x y : Reading) : Type 0 where
 
 -- A READING THAT STILL STANDS: what was accepted under d is accepted under e as the same; what was refused is refused with the same number
 -- at the same place, unless an identifier was unknown
-pub record Stands (d e : Dictionary) (old new : Answer Reading) : Type 0 where
-  pub accepted : (x : Reading) → old ≡ good x → (y : Reading) × (new ≡ good y) × SameReading d e x y
+pub record Stands (d e : Dictionary) (old new : Answer Received) : Type 0 where
+  pub accepted : (x : Received) → old ≡ good x → (y : Received) × (new ≡ good y) × SameReading d e x y
   pub refused : (k p : ℕ) → old ≡ Answers.refused k p → (k ≡ unknown-identifier → ⊥) → new ≡ Answers.refused k p
 
 -- of every text, into any lent list

@@ -8,7 +8,7 @@ use lib.ListN.{length, take, drop, replicate}
 use lib.Seq.{length-take-le, take-at, take-length}
 use Rattle.dictionary.specs.Dictionary.{noField}
 use Rattle.dictionary.specs.declared.Field.{Field}
-use Rattle.records.specs.Lists.{pasted, byValue}
+use Rattle.records.specs.inner.Lists.{pasted, byValue}
 
 pub by-value-count : (l : List Field) → byValue l .count ≡ length l
 unfolding byValue

@@ -8,7 +8,7 @@ use lib.ListN.{length, set, take, drop, getD, length-append, length-drop}
 use lib.Seq.{length-take-le, take-suc, drop-cons, set-at}
 use Rattle.dictionary.specs.Dictionary.{noField}
 use Rattle.dictionary.specs.declared.Field.{Field}
-use Rattle.records.specs.Lists.{pasted}
+use Rattle.records.specs.inner.Lists.{pasted}
 
 pub pasted-length : (src l : List Field) (i : ℕ) → i ≤ length src → i ≤ length l → length (pasted src l i) ≡ length l
 pasted-length src l i hs hl = length-append (take i src) (drop i l) ∙ let e : length (take i src) ≡ i = length-take-le i src hs in let d : length (drop i l) ≡ length l - i = length-drop i l in omega arith

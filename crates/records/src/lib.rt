@@ -8,9 +8,8 @@ ghost use Prim.Native.Nat.{_<_, _≤_};
 ghost use lib.ListN.{length, getD};
 ghost use Rattle.refusal.specs.Limits.{most-fields};
 ghost use Rattle.dictionary.specs.Dictionary.{noField};
-ghost use Rattle.conformity.specs.Conformity.{conforms};
-ghost use Rattle.conformity.specs.Noted.{answered};
-ghost use Rattle.records.specs.Lists.{noFields, pasted, withRecord, byValue};
+ghost use Rattle.conformity.specs.Conformity.{ConformityPromised};
+ghost use Rattle.records.specs.inner.Lists.{noFields, pasted, withRecord, byValue};
 
 // The record at i, whether it counts or not.
 fn record_at(f: Fields, i: usize) -> Field
@@ -21,7 +20,7 @@ fn record_at(f: Fields, i: usize) -> Field
     x
 }
 
-// "a thin function stores each field record into a lent slice of structs"
+// Stores the records one by one.
 pub fn put_all(list: &mut [Field], f: Fields)
     requires { ⌜ (f .count ≤ most-fields) × (f .count ≤ length (now list)) ⌝ }
     ensures { λ _. ⌜ now (list .exit) ≡ pasted (f .list) (now (list .entry)) (f .count) ⌝ }
@@ -37,7 +36,7 @@ pub fn put_all(list: &mut [Field], f: Fields)
 
 // Conformity of a list of any length, record by record.
 pub fn conforms_list(type0: u8, type1: u8, list: &[Field]) -> Conformity
-    ensures { λ r. ⌜ r ≡ answered (conforms type0 type1 (now (list .entry))) ⌝ }
+    ensures { λ r. ⌜ ConformityPromised type0 type1 (now (list .entry)) r ⌝ }
 {
     let n = list.len();
     let mut s = conformity::begin(type0, type1);

@@ -198,9 +198,9 @@ fn show_message(r: TextRead) {
     let h = r.header;
     let f = r.fields;
     io::write_all(1, b"accepted, days ");
-    io::print_decimal(1, h.issue as u64);
+    io::print_decimal(1, h.issue_day as u64);
     io::write_all(1, b" and ");
-    io::print_decimal(1, h.signing as u64);
+    io::print_decimal(1, h.signing_day as u64);
     io::write_all(1, b", signed ");
     io::print_decimal(1, r.signed_length as u64);
     io::write_all(1, b", signature ");

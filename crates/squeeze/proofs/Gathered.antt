@@ -18,7 +18,7 @@ use Rattle.day_file.proofs.Holding.{Holds}
 use Rattle.day_file.proofs.Places.{state-there, length-there, within, body-append, body-more, parted, in-body}
 use Rattle.day_file.proofs.Numbered.{at-it}
 use Rattle.squeeze.specs.Squeeze.{isLive, liveOnes}
-use Rattle.squeeze.specs.Inner.{scansIn, Opens}
+use Rattle.squeeze.specs.inner.Code.{scansIn, Opens}
 use Rattle.squeeze.proofs.Live.{no-live, live-more}
 use Rattle.squeeze.proofs.Walks.{held, count-is, trails, in-list, start-here, inside-here, all-of}
 

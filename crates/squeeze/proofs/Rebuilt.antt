@@ -21,7 +21,7 @@ use Rattle.day_file.proofs.Standing.{scans-of}
 use Rattle.day_file.proofs.Holding.{Holds}
 use Rattle.day_file.proofs.Putting.{take-put, length-put}
 use Rattle.squeeze.specs.Squeeze.{liveOnes, squeezing, squeezed}
-use Rattle.squeeze.specs.Inner.{scansIn, Opens}
+use Rattle.squeeze.specs.inner.Code.{scansIn, Opens}
 use Rattle.squeeze.proofs.Sizes.{squeezed-least}
 use Rattle.squeeze.proofs.Walks.{held, opened-is, small-count}
 use Rattle.squeeze.proofs.Gathered.{same-behind}

@@ -13,7 +13,7 @@ use Rattle.day_file.specs.Plain.{numbered}
 use Rattle.day_file.proofs.Bytes.{Bytes}
 use Rattle.day_file.proofs.Holding.{Holds}
 use Rattle.day_file.proofs.Numbered.{Known, known, start-is, state-is, length-is, inside}
-use Rattle.squeeze.specs.Inner.{listOf, scansIn, Opens}
+use Rattle.squeeze.specs.inner.Code.{listOf, scansIn, Opens}
 use Rattle.squeeze.proofs.Live.{state-small}
 
 module _ (s : List ℕ) (len count t : ℕ) (y : Bytes s) (e : Opens s len count t) where

@@ -1,3 +1,3 @@
 pub mod Squeeze
 pub mod Answers
-pub mod Inner
+pub mod inner

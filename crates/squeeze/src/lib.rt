@@ -10,7 +10,7 @@ ghost use Rattle.day_file.specs.File.{most-bytes, body, bytesOf};
 ghost use Rattle.day_file.specs.Opening.{twoAt};
 ghost use Rattle.day_file.specs.Pieces.{putAt};
 ghost use Rattle.squeeze.specs.Squeeze.{liveOnes, oldNumbers, upFrom, squeezing, squeezed, squeezedSlice, oldsAfter, newsAfter};
-ghost use Rattle.squeeze.specs.Inner.{scansIn, Opens};
+ghost use Rattle.squeeze.specs.inner.Code.{scansIn, Opens};
 ghost use Rattle.squeeze.specs.Answers.{squeezedAnswer};
 
 // The number of live records, and the file's new length; or a refusal.

@@ -15,8 +15,8 @@ use Rattle.day_file.specs.declared.Opened.the-variants.{Good}
 use Rattle.day_file.proofs.Bytes.{Bytes}
 use Rattle.day_file.proofs.Good.{accepted, size-is}
 use Rattle.day_file.proofs.Places.{length-there, within, in-file, start-there, parted}
-use Rattle.squeeze.specs.Inner.{listOf}
-use Rattle.tally.specs.Inner.{scansIn, Opens}
+use Rattle.squeeze.specs.inner.Code.{listOf}
+use Rattle.tally.specs.inner.Code.{scansIn, Opens}
 
 module _ (f : List ℕ) (count t : ℕ) (y : Bytes f) (e : Opens f count t) where
   abbrev rs : List Scan

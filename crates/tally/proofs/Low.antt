@@ -11,20 +11,22 @@ use Rattle.refusal.specs.Answers.{Answer, good, refused, _>>=_, _>>_, check}
 use Rattle.refusal.specs.Among.{among}
 use Rattle.refusal.specs.Limits.{limit, most-fields}
 use Rattle.dictionary.specs.Rows.{rows}
-use Rattle.dictionary.specs.Dictionary.{Dictionary, upper, full, find, rowsOf}
+use Rattle.dictionary.specs.Dictionary.{Dictionary, full, find, rowsOf}
 use Rattle.dictionary.specs.declared.Row.{Row}
 use Rattle.dictionary.specs.declared.Field.{Field}
-use Rattle.base32.specs.Base32.{inAlphabet, spareBits}
-use Rattle.header.specs.Header.{size, versionOf, part, perimeterIn, countryIn, parts, known, readHeader, upperOrDigit, hex}
+use Rattle.base32.specs.Base32.{inAlphabet}
+use Rattle.header.specs.Header.{size, versionOf, part, parts, known, readHeader, upperOrDigit, hex}
 use Rattle.header.specs.declared.Version.{Version}
 use Rattle.header.specs.declared.Version.the-variants.{V02, V03, V04}
-use Rattle.text.specs.Signature.{lengthOfChars, wrongNumber, signatureChars, readSignature}
+use Rattle.text.specs.Signature.{lengthOfChars, wrongNumber, signatureChars, readSignature, spareOf}
 use Rattle.text.specs.Zone.{does, onDoes, Piece, readData, zone}
-use Rattle.text.specs.Text.{Halves, further, atMark, Reading, reading, readText}
+use Rattle.text.specs.Text.{Halves, further, atMark, Received, reading, readText}
 use Rattle.text.specs.declared.Does.{Does}
 use Rattle.text.specs.declared.Does.the-variants.{More, Ends, Cuts, Follows, Wrong}
 use Rattle.tally.specs.Counting.{slotOf, slotIn}
 use Rattle.tally.proofs.Slots.{column-small}
+use Rattle.refusal.specs.Classes.{upper}
+use Rattle.header.specs.inner.Code.{perimeterIn, countryIn}
 
 abbrev Low : {A : Type 0} → Answer A → Type 0
 Low (good a) = Unit {0}
@@ -135,7 +137,7 @@ low-chars v p (c ∷ l) = test (inAlphabet c) (wrongNumber v c) p _ (low-wrong v
 
 low-signature : (v : Version) (p : ℕ) (l : List ℕ) → Low (readSignature v p l)
 unfolding readSignature
-low-signature v p l = next (signatureChars v p l) _ (low-chars v p l) (test (lengthOfChars (length l)) 21 p _ (omega arith) (test (eqb (spareBits l) 0) 23 p _ (omega arith) tt))
+low-signature v p l = next (signatureChars v p l) _ (low-chars v p l) (test (lengthOfChars (length l)) 21 p _ (omega arith) (test (eqb (spareOf l) 0) 23 p _ (omega arith) tt))
 
 -- the whole
 low-further : (c : ℕ) (x : Answer Halves) → Low x → Low (further c x)
@@ -163,6 +165,6 @@ low-text d room t = test (leb (length t) limit) 5 limit _ (omega arith) (test (l
 pub slot-small : (text : List ℕ) → slotIn text < 262
 slot-small text = go (readText rows most-fields text) (low-text rows most-fields text)
   where
-    go : (x : Answer Reading) → Low x → slotOf x < 262
+    go : (x : Answer Received) → Low x → slotOf x < 262
     go (good x) h = column-small (getD (x .message .header .doctype) 0 0) (getD (x .message .header .doctype) 1 0)
     go (refused k p) h = omega arith

@@ -11,16 +11,16 @@ use Rattle.refusal.specs.Answers.{Answer, good, refused}
 use Rattle.refusal.specs.Numbers.{refusal}
 use Rattle.refusal.specs.declared.Refusal.{Refusal}
 use Rattle.conformity.specs.Conformity.{columnOf}
-use Rattle.text.specs.Text.{Reading}
+use Rattle.text.specs.Text.{Received}
 use Rattle.text_reader.specs.Answers.{textAnswer}
 use Rattle.text_reader.specs.declared.Outcome.the-variants.{Accepted, Refused}
 use Rattle.tally.specs.Counting.{slotOf}
 
-pub refused-slot : (x : Answer Reading) (w : Refusal) → textAnswer x .outcome ≡ Refused w → 6 + w .number ≡ slotOf x
+pub refused-slot : (x : Answer Received) (w : Refusal) → textAnswer x .outcome ≡ Refused w → 6 + w .number ≡ slotOf x
 refused-slot (good x) w e = let z : _≡_ {A = ℕ} 0 1 = cc in absurd (omega arith)
 refused-slot (refused k p) w e = let z : refusal k p ≡ w = cc in ap (λ (v : Refusal). 6 + v .number) (sym z)
 
-pub accepted-slot : (x : Answer Reading) → textAnswer x .outcome ≡ Accepted
+pub accepted-slot : (x : Answer Received) → textAnswer x .outcome ≡ Accepted
     → columnOf (getD (textAnswer x .header .doctype) 0 0) (getD (textAnswer x .header .doctype) 1 0) ≡ slotOf x
 accepted-slot (good x) e = refl
 accepted-slot (refused k p) e = let z : _≡_ {A = ℕ} 0 1 = cc in absurd (omega arith)

@@ -9,7 +9,7 @@ use Rattle.refusal.specs.Numbers.{count-full}
 use Rattle.refusal.specs.Limits.{most-fields}
 use Rattle.dictionary.specs.Rows.{rows}
 use Rattle.conformity.specs.Conformity.{columnOf}
-use Rattle.text.specs.Text.{Reading, readText}
+use Rattle.text.specs.Text.{Received, readText}
 use Rattle.day_file.specs.File.{Scan}
 use Rattle.day_file.specs.Opening.{records}
 use Rattle.squeeze.specs.Squeeze.{isLive, liveOnes}
@@ -20,7 +20,7 @@ abbrev pub most-count : ℕ
 most-count = 4294967295
 
 -- where a reading is counted: 0 to 4 the types that conformity covers, 5 all others, and from 6 on the refusals by number
-abbrev pub slotOf : Answer Reading → ℕ
+abbrev pub slotOf : Answer Received → ℕ
 slotOf (good x) = columnOf (getD (x .message .header .doctype) 0 0) (getD (x .message .header .doctype) 1 0)
 slotOf (refused k p) = 6 + k
 

@@ -1,3 +1,3 @@
 pub mod Counting
 pub mod Answers
-pub mod Inner
+pub mod inner

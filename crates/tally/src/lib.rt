@@ -5,7 +5,7 @@ ghost use lib.ListN.{length, drop, getD};
 ghost use Rattle.refusal.specs.Limits.{most-fields};
 ghost use Rattle.dictionary.specs.Rows.{rows};
 ghost use Rattle.day_file.specs.Opening.{twoAt, scanAt};
-ghost use Rattle.tally.specs.Inner.{scansIn, Opens};
+ghost use Rattle.tally.specs.inner.Code.{scansIn, Opens};
 ghost use Rattle.tally.specs.Counting.{slotIn, addText, addScan, addAll, counting};
 ghost use Rattle.tally.specs.Answers.{countedAnswer};
 

@@ -1,6 +1,6 @@
 -- The signature: its characters by what leads, and each of its refusals.
 -- Assumes nothing.
-use Prim.Native.Nat.{ℕ, suc, _+_, _≤_, _<_}
+use Prim.Native.Nat.{ℕ, suc, _+_, _-_, _%_, _≤_, _<_}
 use mathlib.Core.Bool.{Bool, true, false, _||_}
 use mathlib.Core.List.{List, [], _∷_}
 use mathlib.Core.Path.{_≡_, refl, sym, ap, subst, _∙_}
@@ -11,10 +11,13 @@ use borrow.Author.Tests.{eqb-true, eq-eqb, ne-eqb}
 use Rattle.refusal.specs.Answers.{good, refused}
 use Rattle.refusal.specs.Numbers.{signature-length, signature-character, spare-bits, annex}
 use Rattle.refusal.proofs.Binds.{by-or}
-use Rattle.base32.specs.Base32.{inAlphabet, leading, decoded, spareBits}
+use Rattle.base32.specs.Base32.{inAlphabet, decoded, valueOf}
 use Rattle.header.specs.declared.Version.{Version}
 use Rattle.header.specs.declared.Version.the-variants.{V04}
-use Rattle.text.specs.Signature.{lengthOfChars, wrongNumber, signatureChars, readSignature}
+use Rattle.text.specs.Signature.{lengthOfChars, wrongNumber, signatureChars, readSignature, spareOf}
+use Rattle.base32.specs.inner.Code.{leading, spareBits}
+use Rattle.base32.proofs.Spare.{spareIn, spare-last}
+use Rattle.refusal.specs.Pick.{pick}
 
 leading-most : (l : List ℕ) → leading l ≤ length l
 unfolding leading
@@ -52,6 +55,19 @@ chars-wrong v p (c ∷ l) h = go (inAlphabet c) refl h (chars-wrong v (suc p) l)
 pub all-lead : (l : List ℕ) (k : ℕ) → k ≡ leading l → length l ≤ k → leading l ≡ length l
 all-lead l k e h = omega (arith, leading-most l)
 
+-- the spare bits of the three lengths
+pub spare-is : (l : List ℕ) → lengthOfChars (length l) ≡ true → spareOf l ≡ spareBits l
+spare-is l e = by-or (eqb (length l) 103 || eqb (length l) 154) (eqb (length l) 212) e
+    (λ e. by-or (eqb (length l) 103) (eqb (length l) 154) e (λ e. of 103 (eqb-true (length l) 103 e) (λ z. omega (arith, eqb-true (length l) 103 e)) (λ v. refl)) (λ e. of 154 (eqb-true (length l) 154 e) (λ z. omega (arith, eqb-true (length l) 154 e)) (λ v. refl)))
+    (λ e. of 212 (eqb-true (length l) 212 e) (λ z. omega (arith, eqb-true (length l) 212 e)) (λ v. refl))
+  where
+    of : (n : ℕ) → length l ≡ n → (length l % 8 ≡ 0 → ⊥) → ((v : ℕ) → v % pick (eqb n 103) 8 (pick (eqb n 154) 4 16) ≡ spareIn (n % 8) v) → spareOf l ≡ spareBits l
+    of n z some same =
+        ap (λ k. valueOf (getD l (length l - 1) 0) % pick (eqb k 103) 8 (pick (eqb k 154) 4 16)) z
+        ∙ same (valueOf (getD l (length l - 1) 0))
+        ∙ ap (λ k. spareIn (k % 8) (valueOf (getD l (length l - 1) 0))) (sym z)
+        ∙ spare-last l _ refl some
+
 -- each return
 module _ (v : Version) (p : ℕ) (l : List ℕ) where
   sign-wrong : leading l < length l → readSignature v p l ≡ refused (wrongNumber v (getD l (leading l) 0)) (p + leading l)
@@ -67,11 +83,11 @@ module _ (v : Version) (p : ℕ) (l : List ℕ) where
 
   pub sign-spare : leading l ≡ length l → lengthOfChars (length l) ≡ true → (spareBits l ≡ 0 → ⊥) → readSignature v p l ≡ refused spare-bits p
   unfolding readSignature
-  sign-spare e n s = rw (chars-right v p l e, n, ne-eqb (spareBits l) 0 s)
+  sign-spare e n s = rw (chars-right v p l e, n, ne-eqb (spareOf l) 0 (λ z. s (sym (spare-is l n) ∙ z)))
 
   pub sign-good : leading l ≡ length l → lengthOfChars (length l) ≡ true → spareBits l ≡ 0 → readSignature v p l ≡ good (decoded l)
   unfolding readSignature
-  sign-good e n s = rw (chars-right v p l e, n, eq-eqb (spareBits l) 0 s)
+  sign-good e n s = rw (chars-right v p l e, n, eq-eqb (spareOf l) 0 (spare-is l n ∙ s))
 
 pub length-most : (n : ℕ) → lengthOfChars n ≡ true → n ≤ 212
 length-most n e = by-or (eqb n 103 || eqb n 154) (eqb n 212) e

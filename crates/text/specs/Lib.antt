@@ -1,5 +1,4 @@
 pub mod Zone
 pub mod Signature
 pub mod Text
-pub mod Samples
-pub mod Code
+pub mod inner

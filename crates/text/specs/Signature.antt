@@ -1,13 +1,13 @@
 -- The signature: Base32 behind the mark 31, for 64, 96 or 132 bytes (document 01, "The text").
-use Prim.Native.Nat.{ℕ, suc}
+use Prim.Native.Nat.{ℕ, suc, _-_, _%_}
 use mathlib.Core.Bool.{Bool, _||_}
 use mathlib.Core.List.{List, [], _∷_}
 use lib.Dec.{eqb}
-use lib.ListN.{length}
+use lib.ListN.{length, getD}
 use Rattle.refusal.specs.Pick.{pick}
 use Rattle.refusal.specs.Answers.{Answer, good, _>>=_, _>>_, check}
 use Rattle.refusal.specs.Numbers.{signature-length, signature-character, spare-bits, annex}
-use Rattle.base32.specs.Base32.{inAlphabet, decoded, spareBits, encoded}
+use Rattle.base32.specs.Base32.{inAlphabet, valueOf, decoded, encoded}
 use Rattle.header.specs.declared.Version.{Version}
 use Rattle.header.specs.declared.Version.the-variants.{V02, V03, V04}
 
@@ -17,6 +17,10 @@ lengthOfBytes n = eqb n 64 || eqb n 96 || eqb n 132
 
 abbrev pub lengthOfChars : ℕ → Bool
 lengthOfChars n = eqb n 103 || eqb n 154 || eqb n 212
+
+-- the last character's low bits to spare: 3 of 103 characters, 2 of 154, 4 of 212
+abbrev pub spareOf : List ℕ → ℕ
+spareOf l = valueOf (getD l (length l - 1) 0) % pick (eqb (length l) 103) 8 (pick (eqb (length l) 154) 4 16)
 
 -- a character outside the alphabet; in version 04 a 29 has a number of its own
 abbrev pub wrongNumber : Version → ℕ → ℕ
@@ -34,7 +38,7 @@ unfoldable pub readSignature : Version → (p : ℕ) → List ℕ → Answer (Li
 readSignature v p l = do
   signatureChars v p l
   check (lengthOfChars (length l)) signature-length p
-  check (eqb (spareBits l) 0) spare-bits p
+  check (eqb (spareOf l) 0) spare-bits p
   good (decoded l)
 
 -- and back

@@ -48,7 +48,8 @@ identifier p [] none some = none
 identifier p (c ∷ []) none some = refused zone-ends-inside p
 identifier p (a ∷ b ∷ l) none some = some a b l
 
--- THE FIELDS of a zone, behind those before it: p is the place of the first character left, and `room` more fields are allowed
+-- THE FIELDS of a zone, which may have none, behind those before it, in the order in which they stand, whatever it is; no identifier twice.
+-- p is the place of the first character left, and `room` more fields are allowed
 unfoldable pub zone : Dictionary → (room : ℕ) → (before : List Field) → (p : ℕ) → List ℕ → Answer (List Field)
 zone d zero before p l = identifier p l (good before) λ a b l. do
   n ← find a b 0 p d

@@ -7,10 +7,10 @@ ghost use Rattle.refusal.specs.Answers.{refused};
 ghost use Rattle.refusal.specs.Limits.{limit};
 ghost use Rattle.text.specs.Signature.{wrongNumber, lengthOfChars, readSignature};
 ghost use Rattle.text.specs.Text.{atMark};
-ghost use Rattle.text.specs.Code.{markSays, signatureAnswer};
+ghost use Rattle.text.specs.inner.Code.{zoneEndSays, signatureAnswer};
 
 // The place of the mark 31.
-pub enum Mark {
+pub enum ZoneEnd {
     Found(usize),
     Missing,
 }
@@ -33,18 +33,18 @@ pub enum Does {
 }
 
 // The first 31 from a place on.
-pub fn find_mark(text: &[u8], from: usize) -> Mark
+pub fn find_mark(text: &[u8], from: usize) -> ZoneEnd
     requires { ⌜ from ≤ length (now text) ⌝ }
-    ensures { λ r. ⌜ markSays r from (now (text .entry)) ≡ atMark from (drop from (now (text .entry))) ⌝ }
+    ensures { λ r. ⌜ zoneEndSays r from (now (text .entry)) ≡ atMark from (drop from (now (text .entry))) ⌝ }
 {
     let mut i = from;
     while i < text.len() {
         if text[i] == 31 {
-            return Mark::Found(i);
+            return ZoneEnd::Found(i);
         }
         i += 1;
     }
-    Mark::Missing
+    ZoneEnd::Missing
 }
 
 // In version 04 a 29 behind the 31 has a number of its own.

@@ -11,12 +11,13 @@ use Rattle.dictionary.specs.declared.Field.{Field}
 use Rattle.header.specs.declared.HeaderRead.{HeaderRead}
 use Rattle.text.specs.declared.SignatureRead.{SignatureRead}
 use Rattle.header.specs.Header.{Headed}
-use Rattle.header.specs.Code.{headerAnswer}
-use Rattle.text.specs.Code.{signatureAnswer}
-use Rattle.text_reader.specs.Answers.{fieldsOf, zoneAnswer}
+use Rattle.header.specs.inner.Code.{headerAnswer}
+use Rattle.text.specs.inner.Code.{signatureAnswer}
+use Rattle.text_reader.specs.Answers.{fieldsOf}
 use Rattle.text_reader.specs.declared.Outcome.the-variants.{Accepted, Refused}
 use Rattle.text_reader.specs.declared.ZoneRead.{ZoneRead}
 use Rattle.text_reader.proofs.Named.{Named}
+use Rattle.text_reader.specs.inner.Code.{zoneAnswer}
 
 -- what the reader of the header answered
 pub header-refused : (x : Answer Headed) (h : HeaderRead) → h ≡ headerAnswer x → (h .refusal .number ≡ 0 → ⊥) → x ≡ refused (h .refusal .number) (h .refusal .place)

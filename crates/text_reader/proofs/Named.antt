@@ -12,12 +12,13 @@ use Rattle.refusal.specs.Pick.{pick}
 use Rattle.refusal.specs.Answers.{Answer, good, refused, _>>=_, _>>_, check}
 use Rattle.refusal.specs.Numbers.{header-too-short, not-dc, unknown-version, wrong-header-character, wrong-perimeter, signature-length, signature-character, spare-bits, annex}
 use Rattle.refusal.proofs.Binds.{never}
-use Rattle.dictionary.specs.Dictionary.{upper}
-use Rattle.base32.specs.Base32.{inAlphabet, spareBits, decoded}
+use Rattle.base32.specs.Base32.{inAlphabet, decoded}
 use Rattle.header.specs.declared.Version.{Version}
 use Rattle.header.specs.declared.Version.the-variants.{V02, V03, V04}
-use Rattle.header.specs.Header.{versionOf, size, blank, upperOrDigit, hex, part, perimeter01, perimeterIn, countryIn, parts, readHeader, known}
-use Rattle.text.specs.Signature.{wrongNumber, lengthOfChars, signatureChars, readSignature}
+use Rattle.header.specs.Header.{versionOf, size, blank, upperOrDigit, hex, part, perimeter01, parts, readHeader, known}
+use Rattle.text.specs.Signature.{wrongNumber, lengthOfChars, signatureChars, readSignature, spareOf}
+use Rattle.header.specs.inner.Code.{perimeterIn, countryIn}
+use Rattle.refusal.specs.Classes.{upper}
 
 pub record Named {A : Type 0} (x : Answer A) : Type 0 where
   pub number : (k p : ℕ) → x ≡ refused k p → 0 < k
@@ -69,8 +70,8 @@ unfolding parts
 parts-named v t =
     bind _ _ (part-named (upper ∷ upper ∷ upperOrDigit ∷ upperOrDigit ∷ []) 4 t) λ authority.
     bind _ _ (part-named (upperOrDigit ∷ upperOrDigit ∷ upperOrDigit ∷ upperOrDigit ∷ []) 8 t) λ certificate.
-    bind _ _ (part-named (hex ∷ hex ∷ hex ∷ hex ∷ []) 12 t) λ issue.
-    bind _ _ (part-named (hex ∷ hex ∷ hex ∷ hex ∷ []) 16 t) λ signing.
+    bind _ _ (part-named (hex ∷ hex ∷ hex ∷ hex ∷ []) 12 t) λ «issue_day».
+    bind _ _ (part-named (hex ∷ hex ∷ hex ∷ hex ∷ []) 16 t) λ «signing_day».
     bind _ _ (part-named (upperOrDigit ∷ upperOrDigit ∷ []) 20 t) λ doctype.
     bind _ _ (perimeter-named v t) λ perimeter.
     bind _ _ (country-named v t) λ country. fine _
@@ -107,4 +108,4 @@ unfolding readSignature
 signature-named v p l =
     seq (signatureChars v p l) _ (chars-named v p l)
     (check-then (lengthOfChars (length l)) signature-length p _ (omega arith)
-    (check-then (eqb (spareBits l) 0) spare-bits p _ (omega arith) (fine (decoded l))))
+    (check-then (eqb (spareOf l) 0) spare-bits p _ (omega arith) (fine (decoded l))))

@@ -1,16 +1,14 @@
--- Every public promise is an equation with the definition, so it has one answer only.
+-- Each public promise leaves one answer: the first is an equation, and of the second part both length and characters are said.
 -- Assumes nothing.
 use Prim.Native.Nat.{ℕ}
 use mathlib.Core.List.{List}
-use mathlib.Core.Path.{_≡_, sym, _∙_}
-use Rattle.refusal.specs.Limits.{most-fields}
-use Rattle.dictionary.specs.Rows.{rows}
-use Rattle.text.specs.Text.{readText, signedPart}
-use Rattle.text_reader.specs.Answers.{textAnswer}
+use mathlib.Core.Path.{_≡_, sym, ap, _∙_}
+use lib.ListN.{take}
+use Rattle.text_reader.specs.Answers.{TextPromised, PartPromised}
 use Rattle.text_reader.specs.declared.TextRead.{TextRead}
 
-pub text-one : (room : ℕ) (t : List ℕ) (x y : TextRead) → x ≡ textAnswer (readText rows room t) → y ≡ textAnswer (readText rows room t) → x ≡ y
-text-one room t x y p q = p ∙ sym q
+pub one-text : (t : List ℕ) (room : ℕ) (r r′ : TextRead) → TextPromised t room r → TextPromised t room r′ → r ≡ r′
+one-text t room r r′ p q = p ∙ sym q
 
-pub part-one : (t x y : List ℕ) → x ≡ signedPart rows most-fields t → y ≡ signedPart rows most-fields t → x ≡ y
-part-one t x y p q = p ∙ sym q
+pub one-part : (t part part′ : List ℕ) → PartPromised t part → PartPromised t part′ → part ≡ part′
+one-part t part part′ p q = p .0 ∙ ap (λ n. take n t) (p .1 ∙ sym (q .1)) ∙ sym (q .0)

@@ -12,24 +12,24 @@ use lib.Seq.{slice, slice-cons, slice-empty, take-suc, getD-drop, length-take-le
 use borrow.Author.Tests.{eq-eqb, ne-eqb}
 use Rattle.refusal.specs.Answers.{Answer, good}
 use Rattle.refusal.specs.Numbers.{wrong-character, zone-ends-inside, refusal}
-use Rattle.dictionary.specs.Dictionary.{isLimit, fixed, allowed}
-use Rattle.dictionary.specs.Lookup.{soFar}
+use Rattle.dictionary.specs.Dictionary.{isGreatest, fixed, allowed}
+use Rattle.dictionary.specs.inner.Lookup.{soFar}
 use Rattle.dictionary.specs.declared.Row.{Row}
 use Rattle.text.specs.declared.Does.{Does}
 use Rattle.text.specs.declared.Does.the-variants.{More, Ends, Cuts, Follows, Wrong}
 use Rattle.text.specs.Zone.{does, Piece, onDoes, readData}
-use Rattle.text_reader.specs.Code.{dataSays}
+use Rattle.text_reader.specs.inner.Code.{dataSays}
 use Rattle.text_reader.specs.declared.DataRead.the-variants.{Data, Refused}
 
 -- what a character does
-module _ (r : Row) (text : List ℕ) (start n c : ℕ) (fits : start + n ≤ length text) (w f : Bool) (we : w ≡ isLimit (r .greatest) n) (fe : f ≡ fixed r) where
+module _ (r : Row) (text : List ℕ) (start n c : ℕ) (fits : start + n ≤ length text) (w f : Bool) (we : w ≡ isGreatest (r .greatest) n) (fe : f ≡ fixed r) where
   abbrev d : Does
   d = does r (soFar text start n) c
 
   so-long : length (soFar text start n) ≡ n
   so-long = length-take-le n (drop start text) (omega (arith, length-drop start text))
 
-  whole-is : (b : Bool) → w ≡ b → isLimit (r .greatest) (length (soFar text start n)) ≡ b
+  whole-is : (b : Bool) → w ≡ b → isGreatest (r .greatest) (length (soFar text start n)) ≡ b
   whole-is b t = rw so-long (sym we ∙ t)
 
   pub full-fixed : w ≡ true → f ≡ true → Follows ≡ d
@@ -102,20 +102,20 @@ module _ (r : Row) (at : ℕ) (text : List ℕ) (start p end : ℕ) (sp : start 
   pub step-wrong : Wrong ≡ does r chars (getD text p 0) → dataSays (Refused (refusal wrong-character p)) text start end ≡ goal
   step-wrong e = step-law Wrong e
 
--- the loop's two Ends
+-- the loop's two ends
 module _ (r : Row) (at : ℕ) (text : List ℕ) (start end : ℕ) where
   pub at-start : readData r at (soFar text start (start - start)) start (slice start end text) ≡ readData r at [] start (slice start end text)
   at-start = let z : start - start ≡ 0 = omega arith in rw z
 
-  module _ (se : start ≤ end) (et : end ≤ length text) (w : Bool) (we : w ≡ isLimit (r .greatest) (end - start)) where
+  module _ (se : start ≤ end) (et : end ≤ length text) (w : Bool) (we : w ≡ isGreatest (r .greatest) (end - start)) where
     long : length (soFar text start (end - start)) ≡ end - start
     long = length-take-le (end - start) (drop start text) (omega (arith, length-drop start text))
 
     -- the loop has come to the end at p
     pub end-whole : w ≡ true → (p : ℕ) → end ≡ p → dataSays (Data (end - start) false end) text start end ≡ readData r at (soFar text start (p - start)) p (slice p end text)
     unfolding readData
-    end-whole t p q = let h : isLimit (r .greatest) (length (soFar text start (end - start))) ≡ true = rw long (sym we ∙ t) in rw (← q, slice-empty end text, h)
+    end-whole t p q = let h : isGreatest (r .greatest) (length (soFar text start (end - start))) ≡ true = rw long (sym we ∙ t) in rw (← q, slice-empty end text, h)
 
     pub end-open : w ≡ false → (p : ℕ) → end ≡ p → dataSays (Refused (refusal zone-ends-inside at)) text start end ≡ readData r at (soFar text start (p - start)) p (slice p end text)
     unfolding readData
-    end-open t p q = let h : isLimit (r .greatest) (length (soFar text start (end - start))) ≡ false = rw long (sym we ∙ t) in rw (← q, slice-empty end text, h)
+    end-open t p q = let h : isGreatest (r .greatest) (length (soFar text start (end - start))) ≡ false = rw long (sym we ∙ t) in rw (← q, slice-empty end text, h)

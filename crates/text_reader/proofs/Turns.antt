@@ -17,7 +17,7 @@ use Rattle.refusal.specs.Limits.{most-fields}
 use Rattle.refusal.specs.declared.Refusal.{Refusal}
 use Rattle.refusal.specs.Among.{among}
 use Rattle.dictionary.specs.Dictionary.{Dictionary, find, rowsOf}
-use Rattle.dictionary.specs.Lookup.{soFar, foundSays}
+use Rattle.dictionary.specs.inner.Lookup.{soFar, foundSays}
 use Rattle.dictionary.specs.Rows.{rows, rowCount}
 use Rattle.dictionary.specs.declared.Row.{Row}
 use Rattle.dictionary.specs.declared.Field.{Field}
@@ -25,7 +25,7 @@ use Rattle.dictionary.specs.declared.Found.{Found}
 use Rattle.dictionary.specs.declared.Found.the-variants.{At, Unknown}
 use Rattle.dictionary.proofs.Rows.{find-below, rows-many}
 use Rattle.text.specs.Zone.{Piece, readData, zone}
-use Rattle.text_reader.specs.Code.{dataSays, Read, fieldOf, rowSays, RowFits, Marks, fieldSays, FieldFits}
+use Rattle.text_reader.specs.inner.Code.{dataSays, Read, fieldOf, rowSays, RowFits, Marks, fieldSays, FieldFits}
 use Rattle.text_reader.specs.declared.DataRead.{DataRead}
 use Rattle.text_reader.specs.declared.DataRead.the-variants.{Data, Refused}
 use Rattle.text_reader.specs.declared.FieldRead.{FieldRead}

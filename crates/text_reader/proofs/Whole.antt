@@ -21,16 +21,16 @@ use Rattle.header.specs.declared.Version.{Version}
 use Rattle.header.specs.declared.Header.{Header}
 use Rattle.header.specs.declared.HeaderRead.{HeaderRead}
 use Rattle.text.specs.declared.SignatureRead.{SignatureRead}
-use Rattle.text.specs.declared.Mark.{Mark}
-use Rattle.text.specs.declared.Mark.the-variants.{Found, Missing}
+use Rattle.text.specs.declared.ZoneEnd.{ZoneEnd}
+use Rattle.text.specs.declared.ZoneEnd.the-variants.{Found, Missing}
 use Rattle.header.specs.Header.{size, readHeader}
 use Rattle.text.specs.Signature.{readSignature}
-use Rattle.text.specs.Text.{atMark, Reading, reading, readText, upToSigned}
+use Rattle.text.specs.Text.{atMark, Received, reading, readText, signedLength}
 use Rattle.text.specs.Zone.{zone}
-use Rattle.header.specs.Code.{headerAnswer}
-use Rattle.text.specs.Code.{markSays, signatureAnswer}
-use Rattle.text_reader.specs.Answers.{zoneAnswer, textAnswer}
-use Rattle.text_reader.specs.Code.{marked}
+use Rattle.header.specs.inner.Code.{headerAnswer}
+use Rattle.text.specs.inner.Code.{zoneEndSays, signatureAnswer}
+use Rattle.text_reader.specs.Answers.{textAnswer}
+use Rattle.text_reader.specs.inner.Code.{marked, zoneAnswer}
 use Rattle.text_reader.specs.declared.Outcome.the-variants.{Accepted, Refused}
 use Rattle.text_reader.specs.declared.ZoneRead.{ZoneRead}
 use Rattle.text_reader.proofs.Named.{header-named, signature-named}
@@ -40,7 +40,7 @@ use Rattle.text_reader.proofs.Marks.{header-long, mark-long, mark-withi
 -- behind the header: the zone up to the mark at m, whose reader answered z, and the signature, whose reader answered s
 module _ (v : Version) (header : Header) (t : List ℕ) (m : ℕ) (vm : size v ≤ m) (mt : m < length t) (n : ℕ) (ne : n ≡ size v)
     (z : ZoneRead) (ze : z ≡ zoneAnswer (zone rows most-fields [] n (slice n m t))) where
-  abbrev goal : Answer Reading
+  abbrev goal : Answer Received
   goal = marked (record { version = v; header = header }) (slice (size v) m t) (drop (suc m) t)
 
   zone-told : z ≡ zoneAnswer (zone rows most-fields [] (size v) (slice (size v) m t))
@@ -95,17 +95,17 @@ module _ (t : List ℕ) (h : HeaderRead) (he : h ≡ headerAnswer (readHeader t)
     pub header-fits : size (h .version) ≤ length t
     header-fits = header-long t (record { version = h .version; header = h .header }) headed
 
-    module _ (n : ℕ) (ne : n ≡ size (h .version)) (m : Mark) (me : markSays m n t ≡ atMark n (drop n t)) where
-      mark-told : markSays m (size (h .version)) t ≡ atMark (size (h .version)) (drop (size (h .version)) t)
-      mark-told = subst (λ (k : ℕ). markSays m k t ≡ atMark k (drop k t)) ne me
+    module _ (n : ℕ) (ne : n ≡ size (h .version)) (m : ZoneEnd) (me : zoneEndSays m n t ≡ atMark n (drop n t)) where
+      mark-told : zoneEndSays m (size (h .version)) t ≡ atMark (size (h .version)) (drop (size (h .version)) t)
+      mark-told = subst (λ (k : ℕ). zoneEndSays m k t ≡ atMark k (drop k t)) ne me
 
       pub read-missing : m ≡ Missing → reading rows t ≡ refused no-mark (length t)
       unfolding reading
-      read-missing e = rw (headed, sym mark-told ∙ ap (λ (y : Mark). markSays y (size (h .version)) t) e)
+      read-missing e = rw (headed, sym mark-told ∙ ap (λ (y : ZoneEnd). zoneEndSays y (size (h .version)) t) e)
 
       module _ (k : ℕ) (e : m ≡ Found k) where
         found : atMark (size (h .version)) (drop (size (h .version)) t) ≡ good (record { before = slice (size (h .version)) k t; behind = drop (suc k) t })
-        found = sym mark-told ∙ ap (λ (y : Mark). markSays y (size (h .version)) t) e
+        found = sym mark-told ∙ ap (λ (y : ZoneEnd). zoneEndSays y (size (h .version)) t) e
 
         pub mark-fits : (size (h .version) ≤ k) × (k < length t)
         mark-fits = mark-within (size (h .version)) k t header-fits found
@@ -129,23 +129,23 @@ module _ (room : ℕ) (t : List ℕ) where
   in-limits h k = rw (le-leb (length t) limit h, le-leb most-fields room k)
 
 -- the signed part stands within the text
-signed-within : (t : List ℕ) (x : Reading) → reading rows t ≡ good x → x .signed ≤ length t
+signed-within : (t : List ℕ) (x : Received) → reading rows t ≡ good x → x .signed ≤ length t
 unfolding reading
 signed-within t x e =
     by-bind (readHeader t) _ e λ y ey e.
     by-bind (atMark (size (y .version)) (drop (size (y .version)) t)) _ e λ h eh e.
     by-bind (zone rows most-fields [] (size (y .version)) (h .before)) _ e λ f _ e.
     by-bind (readSignature (y .version) (suc (size (y .version) + length (h .before))) (h .behind)) _ e λ s _ e.
-    subst (λ (r : Reading). r .signed ≤ length t) (same-good e) (omega (arith, mark-long (size (y .version)) (drop (size (y .version)) t) h eh, length-drop (size (y .version)) t, header-long t y ey))
+    subst (λ (r : Received). r .signed ≤ length t) (same-good e) (omega (arith, mark-long (size (y .version)) (drop (size (y .version)) t) h eh, length-drop (size (y .version)) t, header-long t y ey))
 
 pub part-within : (room : ℕ) (t : List ℕ) → textAnswer (readText rows room t) .«signed_length» ≤ length t
 unfolding readText
 part-within room t = go (readText rows room t) refl
   where
-    go : (a : Answer Reading) → readText rows room t ≡ a → textAnswer a .«signed_length» ≤ length t
+    go : (a : Answer Received) → readText rows room t ≡ a → textAnswer a .«signed_length» ≤ length t
     go (good x) e = by-check (leb (length t) limit) text-too-long limit _ e λ _ e. by-check (leb most-fields room) lent-too-short 0 _ e λ _ e. signed-within t x e
     go (refused k p) e = omega arith
 
-pub part-is : (a : Answer Reading) (t : List ℕ) → take (textAnswer a .«signed_length») t ≡ upToSigned a t
-part-is (good x) t = refl
-part-is (refused k p) t = refl
+pub part-is : (a : Answer Received) → textAnswer a .«signed_length» ≡ signedLength a
+part-is (good x) = refl
+part-is (refused k p) = refl

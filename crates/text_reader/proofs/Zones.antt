@@ -20,8 +20,8 @@ use Rattle.dictionary.specs.Rows.{rows, rowCount}
 use Rattle.dictionary.specs.declared.Field.{Field}
 use Rattle.dictionary.specs.declared.Fields.{Fields}
 use Rattle.text.specs.Zone.{zone}
-use Rattle.text_reader.specs.Answers.{fieldsOf, zoneAnswer}
-use Rattle.text_reader.specs.Code.{Marks, fieldSays}
+use Rattle.text_reader.specs.Answers.{fieldsOf}
+use Rattle.text_reader.specs.inner.Code.{Marks, fieldSays, zoneAnswer}
 use Rattle.text_reader.specs.declared.FieldRead.{FieldRead}
 use Rattle.text_reader.specs.declared.FieldRead.the-variants.{One, Refused}
 use Rattle.text_reader.specs.declared.Outcome.the-variants.{Accepted}

@@ -1,6 +1,8 @@
 -- What the readers answer, every byte of it, by the definitions.
-use mathlib.Core.List.{List, [], _++_}
-use lib.ListN.{length, drop, replicate}
+use Prim.Native.Nat.{ℕ}
+use mathlib.Core.List.{List, []}
+use mathlib.Core.Path.{_≡_}
+use lib.ListN.{length, take, replicate}
 use Rattle.dictionary.specs.Dictionary.{noField}
 use Rattle.refusal.specs.Answers.{Answer, good, refused}
 use Rattle.refusal.specs.Numbers.{refusal}
@@ -8,23 +10,18 @@ use Rattle.refusal.specs.Limits.{most-fields}
 use Rattle.refusal.specs.Over.{over}
 use Rattle.dictionary.specs.declared.Field.{Field}
 use Rattle.dictionary.specs.declared.Fields.{Fields}
-use Rattle.text.specs.Text.{Reading}
-use Rattle.header.specs.Code.{noHeader}
+use Rattle.dictionary.specs.Rows.{rows}
+use Rattle.text.specs.Text.{Received, signedLength, readText}
 use Rattle.text_reader.specs.declared.Outcome.the-variants.{Accepted, Refused}
-use Rattle.text_reader.specs.declared.ZoneRead.{ZoneRead}
 use Rattle.text_reader.specs.declared.TextRead.{TextRead}
+use Rattle.header.specs.Header.{noHeader}
 
 -- a list of fields, and behind it records of zeros
 abbrev pub fieldsOf : List Field → Fields
-fieldsOf l = record { list = l ++ drop (length l) (replicate most-fields noField); count = length l }
-
--- a refused zone has no field
-abbrev pub zoneAnswer : Answer (List Field) → ZoneRead
-zoneAnswer (good l) = record { outcome = Accepted; fields = fieldsOf l }
-zoneAnswer (refused k p) = record { outcome = Refused (refusal k p); fields = fieldsOf [] }
+fieldsOf l = record { list = over l (replicate most-fields noField); count = length l }
 
 -- THE ANSWER OF `read_text`: of a refused text all but the outcome is zero
-abbrev pub textAnswer : Answer Reading → TextRead
+abbrev pub textAnswer : Answer Received → TextRead
 textAnswer (good x) = record {
   outcome = Accepted;
   header = x .message .header;
@@ -41,3 +38,11 @@ textAnswer (refused k p) = record {
   «signature_length» = 0;
   «signed_length» = 0;
 }
+
+-- WHAT `read_text` PROMISES
+abbrev pub TextPromised : (t : List ℕ) → (room : ℕ) → TextRead → Type 0
+TextPromised t room r = r ≡ textAnswer (readText rows room t)
+
+-- WHAT `signed_part` PROMISES: the part starts where the text starts, and is as long as the signed part
+abbrev pub PartPromised : (t part : List ℕ) → Type 0
+PartPromised t part = (part ≡ take (length part) t) × (length part ≡ signedLength (readText rows most-fields t))

@@ -1,4 +1,4 @@
-// Reading a text: the zone field by field over the dictionary's rows, and then the whole, header, zone and signature. The signed
+// Received a text: the zone field by field over the dictionary's rows, and then the whole, header, zone and signature. The signed
 // part is given back as a part of the caller's text.
 ghost use mathlib.Core.Path.{_≡_};
 ghost use mathlib.Core.List.{List, []};
@@ -9,13 +9,13 @@ ghost use Rattle.dictionary.specs.Dictionary.{noField};
 ghost use Rattle.refusal.specs.Answers.{refused};
 ghost use Rattle.refusal.specs.Limits.{limit, most-fields};
 ghost use Rattle.dictionary.specs.Rows.{rows, rowCount};
-ghost use Rattle.dictionary.specs.Lookup.{rowTable, soFar};
+ghost use Rattle.dictionary.specs.inner.Lookup.{rowTable, soFar};
 ghost use Rattle.dictionary.specs.declared.Field.{Field};
 ghost use Rattle.text.specs.Zone.{does, readData, zone};
 ghost use Rattle.header.specs.Header.{size};
-ghost use Rattle.text.specs.Text.{reading, readText, signedPart};
-ghost use Rattle.text_reader.specs.Answers.{fieldsOf, zoneAnswer, textAnswer};
-ghost use Rattle.text_reader.specs.Code.{stepSays, dataSays, DataFits, StepFits, fieldOf, rowSays, RowFits, Marks, fieldSays, FieldFits, refusedField, marked};
+ghost use Rattle.text.specs.Text.{reading};
+ghost use Rattle.text_reader.specs.Answers.{fieldsOf, textAnswer, TextPromised, PartPromised};
+ghost use Rattle.text_reader.specs.inner.Code.{stepSays, dataSays, DataFits, StepFits, fieldOf, rowSays, RowFits, Marks, fieldSays, FieldFits, refusedField, marked, zoneAnswer};
 
 // A message, or a refusal with its number and place.
 pub enum Outcome {
@@ -58,23 +58,23 @@ pub enum FieldRead {
     Refused(refusal::Refusal),
 }
 
-// What the character c does behind the n characters of data that start at `start`. "Variable: the data end at a 29, or at a 30 that marks
-// them cut short. When they reach the greatest length a 30 directly behind is taken as the mark."
+// What the character c does behind the n characters of data that start at `start`: a 29 ends variable data, a 30 cuts them
+// short, also behind data that have their greatest length already; behind fixed data neither is looked for.
 fn act(r: dictionary::Row, text: &[u8], start: usize, n: usize, c: u8) -> text::Does
     requires { ⌜ start + n ≤ length (now text) ⌝ }
     ensures { λ x. ⌜ x ≡ does r (soFar (now (text .entry)) start n) c ⌝ }
 {
     let m = r.greatest;
-    let full = dictionary::is_limit(m, n);
+    let full = dictionary::is_greatest(m, n);
     let fixed = dictionary::is_fixed(r);
     if full {
         if fixed {
-            return text::Does::Follows; // "that many characters, no separator"
+            return text::Does::Follows; // fixed data have no separator
         }
         if c == 30 {
             return text::Does::Cuts;
         }
-        return text::Does::Follows; // "otherwise nothing separates them from the next field"
+        return text::Does::Follows; // full data need no separator
     }
     let stands = dictionary::may_stand(r, text, start, n, c);
     if fixed {
@@ -133,7 +133,7 @@ fn read_data(r: dictionary::Row, at: usize, text: &[u8], start: usize, end: usiz
     }
     let m = r.greatest;
     let n = end - start;
-    if dictionary::is_limit(m, n) {
+    if dictionary::is_greatest(m, n) {
         return DataRead::Data(n, false, end);
     }
     let open = refusal::Refusal {
@@ -152,7 +152,7 @@ fn refuse_field(number: u8, place: usize) -> FieldRead
     })
 }
 
-// The record of a field of the row n, whose identifier stands at p: "the data left to right (18, or 17 at the zone's end), 19".
+// The record of a field of the row n, whose identifier stands at p: first 18 and 17 as they come, then 19.
 fn read_record(n: usize, r: dictionary::Row, text: &[u8], p: usize, end: usize) -> FieldRead
     requires { ⌜ (p + 2 ≤ end) × (end ≤ length (now text)) × (length (now text) ≤ limit) × (n < rowCount) ⌝ }
     ensures says { λ x. ⌜ rowSays x (now (text .entry)) end ≡ fieldOf n r p (slice (p + 2) end (now (text .entry))) ⌝ }
@@ -178,7 +178,7 @@ fn read_record(n: usize, r: dictionary::Row, text: &[u8], p: usize, end: usize) 
 }
 
 // The field whose identifier stands at p, behind `count` fields that take the rows marked in `used`. `table` is the dictionary's, lent.
-// "fields left to right: 17 for half an identifier, 16, 20, 27, the data left to right"
+// In this order: 17 for half an identifier, 16, 20, 27, and then the data.
 fn read_field(
     table: &[u8; dictionary::TABLE_SIZE],
     text: &[u8],
@@ -231,7 +231,7 @@ fn no_fields() -> dictionary::Fields
     }
 }
 
-// "An identifier stands once at most. Order is free and is kept. A zone may be empty." The zone is what stands from `start` up to `end`.
+// The fields in the order in which they stand, no identifier twice, perhaps none at all. The zone is what stands from `start` up to `end`.
 fn read_zone(text: &[u8], start: usize, end: usize) -> ZoneRead
     requires { ⌜ (start ≤ end) × (end ≤ length (now text)) × (length (now text) ≤ limit) ⌝ }
     ensures { λ x. ⌜ x ≡ zoneAnswer (zone rows most-fields [] start (slice start end (now (text .entry)))) ⌝ }
@@ -273,8 +273,8 @@ fn refuse_text(w: refusal::Refusal) -> TextRead
             version: [0; 2],
             authority: [0; 4],
             certificate: [0; 4],
-            issue: 0,
-            signing: 0,
+            issue_day: 0,
+            signing_day: 0,
             doctype: [0; 2],
             perimeter: [0; 2],
             country: [0; 2],
@@ -330,17 +330,17 @@ fn read_message(text: &[u8]) -> TextRead
     let v = h.version;
     let header = h.header;
     match text::find_mark(text, header::size_of(v)) {
-        text::Mark::Found(m) => read_marked(text, v, header, m),
-        text::Mark::Missing => refuse_text(refusal::Refusal {
+        text::ZoneEnd::Found(m) => read_marked(text, v, header, m),
+        text::ZoneEnd::Missing => refuse_text(refusal::Refusal {
             number: refusal::NO_MARK,
             place: text.len(),
         }),
     }
 }
 
-// A text, whose fields are to go into a lent list of `room` records. "Text reading: 5 (place 1,000), 6", and then the text itself.
+// A text, whose fields are to go into a lent list of `room` records. First 5 and 6, then the text itself.
 pub fn read_text(text: &[u8], room: usize) -> TextRead
-    ensures { λ r. ⌜ r ≡ textAnswer (readText rows room (now (text .entry))) ⌝ }
+    ensures { λ r. ⌜ TextPromised (now (text .entry)) room r ⌝ }
 {
     if refusal::LIMIT < text.len() {
         return refuse_text(refusal::Refusal {
@@ -357,9 +357,9 @@ pub fn read_text(text: &[u8], room: usize) -> TextRead
     read_message(text)
 }
 
-// "The signed part is given back as a part of the caller's text: header and zone, without the 31; of a refused text, the empty part."
+// Header and zone, as a part of the caller's text that ends before the 31; of a refused text, nothing.
 pub fn signed_part(text: &[u8]) -> &[u8]
-    ensures { λ r. ⌜ now r ≡ signedPart rows most-fields (now (text .entry)) ⌝ }
+    ensures { λ r. ⌜ PartPromised (now (text .entry)) (now r) ⌝ }
 {
     let r = read_text(text, refusal::MOST_FIELDS);
     let n = r.signed_length;

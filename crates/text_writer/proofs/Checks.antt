@@ -11,15 +11,15 @@ use lib.Seq.{take-suc, drop-cons}
 use borrow.Author.Tests.{ne-eqb}
 use Rattle.refusal.specs.Pick.{pick}
 use Rattle.refusal.proofs.Binds.{clash}
-use Rattle.dictionary.specs.Dictionary.{allowed, isLimit, full}
+use Rattle.dictionary.specs.Dictionary.{allowed, isGreatest, full}
 use Rattle.dictionary.specs.declared.Row.{Row}
 use Rattle.header.specs.declared.Header.{Header}
 use Rattle.header.specs.declared.Version.{Version}
 use Rattle.header.specs.declared.Version.the-variants.{V02, V03, V04}
 use Rattle.header.specs.Header.{size, digits, headerChars}
 use Rattle.text.specs.Signature.{lengthOfBytes}
-use Rattle.text.specs.Text.{inTurn, spelled}
-use Rattle.text_writer.specs.Writing.{markOf}
+use Rattle.text.specs.Text.{inTurn, ending, spelled}
+use Rattle.text_writer.specs.inner.Room.{markChars}
 
 module _ (r : Row) (l : List ℕ) where
   pub turn-wrong : (i : ℕ) → i < length l → allowed r (take i l) (getD l i 0) ≡ false → false ≡ inTurn r (take i l) (drop i l)
@@ -34,33 +34,30 @@ module _ (r : Row) (l : List ℕ) where
   unfolding inTurn
   turn-end i h = rw (drop-of-length-le l {i = i} h)
 
--- the mark behind data that are not cut
-module _ (r : Row) (n : ℕ) where
-  pub mark-full : (cut : Bool) → cut ≡ false → isLimit (r .greatest) n ≡ true → 0 ≡ markOf r n cut
+-- the mark behind the data
+module _ (r : Row) (l : List ℕ) where
+  pub mark-cut : (cut : Bool) → cut ≡ true → markChars 30 ≡ ending r l cut
+  mark-cut true e = refl
+  mark-cut false e = clash e
+
+  pub mark-full : (cut : Bool) → cut ≡ false → full r l ≡ true → markChars 0 ≡ ending r l cut
   mark-full true e f = clash (sym e)
   mark-full false e f = rw f
 
-  pub mark-open : (cut : Bool) → cut ≡ false → isLimit (r .greatest) n ≡ false → 29 ≡ markOf r n cut
+  pub mark-open : (cut : Bool) → cut ≡ false → full r l ≡ false → markChars 29 ≡ ending r l cut
   mark-open true e f = clash (sym e)
   mark-open false e f = rw f
 
--- a field's characters, without a mark and with one
-no-ending : (b : Bool) → pick {A = ℕ} b 0 29 ≡ 0 → pick {A = List ℕ} b [] (29 ∷ []) ≡ []
-no-ending true e = refl
-no-ending false e = absurd (omega arith)
+  -- a field's characters, without a mark and with one
+  pub spelled-whole : (cut : Bool) {m : ℕ} → markChars m ≡ ending r l cut → m ≡ 0 → spelled r l cut ≡ r .first ∷ r .second ∷ l
+  spelled-whole cut {m = m} e z =
+      let none : markChars m ≡ [] = ap markChars z in
+      ap (λ (x : List ℕ). r .first ∷ r .second ∷ (l ++ x)) (sym e ∙ none) ∙ ap (λ (x : List ℕ). r .first ∷ r .second ∷ x) (append-nil l)
 
-an-ending : (b : Bool) → (pick {A = ℕ} b 0 29 ≡ 0 → ⊥) → pick {A = List ℕ} b [] (29 ∷ []) ≡ pick b 0 29 ∷ []
-an-ending true e = absurd (e refl)
-an-ending false e = refl
-
-module _ (r : Row) (l : List ℕ) where
-  pub spelled-whole : (cut : Bool) → markOf r (length l) cut ≡ 0 → spelled r l cut ≡ r .first ∷ r .second ∷ l
-  spelled-whole true e = absurd (omega arith)
-  spelled-whole false e = ap (λ (m : List ℕ). r .first ∷ r .second ∷ (l ++ m)) (no-ending (full r l) e) ∙ ap (λ (m : List ℕ). r .first ∷ r .second ∷ m) (append-nil l)
-
-  pub spelled-marked : (cut : Bool) → (markOf r (length l) cut ≡ 0 → ⊥) → spelled r l cut ≡ r .first ∷ r .second ∷ (l ++ (markOf r (length l) cut ∷ []))
-  spelled-marked true e = refl
-  spelled-marked false e = ap (λ (m : List ℕ). r .first ∷ r .second ∷ (l ++ m)) (an-ending (full r l) e)
+  pub spelled-marked : (cut : Bool) {m : ℕ} → markChars m ≡ ending r l cut → (m ≡ 0 → ⊥) → spelled r l cut ≡ r .first ∷ r .second ∷ (l ++ (m ∷ []))
+  spelled-marked cut {m = m} e n =
+      let one : markChars m ≡ m ∷ [] = rw (ne-eqb m 0 n) in
+      ap (λ (x : List ℕ). r .first ∷ r .second ∷ (l ++ x)) (sym e ∙ one)
 
 -- a header has as many characters as its version says
 pub header-long : (v : Version) (h : Header) → length (h .authority) ≡ 4 → length (h .certificate) ≡ 4 → length (h .doctype) ≡ 2 → length (h .perimeter) ≡ 2 → length (h .country) ≡ 2

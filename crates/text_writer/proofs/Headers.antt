@@ -11,14 +11,14 @@ use Rattle.refusal.specs.Answers.{Answer, good, refused, _>>=_, _>>_, check}
 use Rattle.refusal.specs.Numbers.{wrong-header-character, wrong-perimeter}
 use Rattle.refusal.specs.declared.Refusal.{Refusal as RefusalOf}
 use Rattle.refusal.proofs.Binds.{by-seq, same-good}
-use Rattle.dictionary.specs.Dictionary.{upper}
 use Rattle.header.specs.declared.Header.{Header}
 use Rattle.header.specs.declared.Version.{Version}
 use Rattle.header.specs.declared.Version.the-variants.{V02, V03, V04}
-use Rattle.header.specs.Header.{upperOrDigit, hex, part, perimeter01, perimeterIn, countryIn, parts, versionOf, headerChars, writeHeader}
-use Rattle.header.specs.Code.{verdict}
+use Rattle.header.specs.Header.{upperOrDigit, hex, part, perimeter01, parts, versionOf, headerChars, writeHeader}
+use Rattle.header.specs.inner.Code.{verdict, perimeterIn, countryIn}
 use Rattle.text_writer.specs.declared.Room.the-variants.{Refused}
-use Rattle.text_writer.specs.Writing.{roomOf}
+use Rattle.text_writer.specs.inner.Room.{roomOf}
+use Rattle.refusal.specs.Classes.{upper}
 
 record Numbered {A : Type 0} (x : Answer A) : Type 0 where
   above : (k p : ℕ) → x ≡ refused k p → 0 < k

@@ -13,15 +13,15 @@ use Rattle.refusal.specs.Numbers.{wrong-character, data-too-short, identifier-r
 use Rattle.refusal.specs.declared.Refusal.{Refusal as RefusalOf}
 use Rattle.refusal.specs.Among.{among}
 use Rattle.dictionary.specs.Dictionary.{Dictionary, fixed, rowAt, rowsOf}
-use Rattle.dictionary.specs.Lookup.{rowFoundSays}
+use Rattle.dictionary.specs.inner.Lookup.{rowFoundSays}
 use Rattle.dictionary.specs.Rows.{rows}
 use Rattle.dictionary.specs.declared.Row.{Row}
 use Rattle.dictionary.specs.declared.RowFound.{RowFound}
 use Rattle.dictionary.specs.declared.Field.{Field}
-use Rattle.text.specs.Text.{dataOf, within, inTurn, spelled, writeField}
+use Rattle.text.specs.Text.{dataOf, within, inTurn, spelled, writeField, writeData}
 use Rattle.text_writer.specs.declared.Room.{Room}
 use Rattle.text_writer.specs.declared.Room.the-variants.{Takes, Refused}
-use Rattle.text_writer.specs.Writing.{roomOf, Below, writeData}
+use Rattle.text_writer.specs.inner.Room.{roomOf, Below}
 
 -- a refusal is below any bound
 pub refused-below : (m : ℕ) {x : Room} {k p : ℕ} → x ≡ roomOf (refused k p) → Below m x
@@ -74,8 +74,8 @@ module _ (d : Dictionary) (s : List ℕ) (before : List Field) (i : ℕ) (f : Fi
       field-repeated t = rw (e, le-leb (f .start + f .length) (length s) h, t)
 
       pub field-data : among (f .row) (rowsOf before) ≡ false → writeData r (dataOf s f) (f .cut) i ≡ writeField d s before i f
-      unfolding writeField writeData
-      field-data t = rw (e, le-leb (f .start + f .length) (length s) h, t, data-length s f h)
+      unfolding writeField
+      field-data t = rw (e, le-leb (f .start + f .length) (length s) h, t)
 
 -- what the dictionary's answer for a record's row says
 pub row-is : (row n i : ℕ) {x y : RowFound} → n ≡ row → ((j : ℕ) → rowFoundSays x j ≡ rowAt rows n j) → x ≡ y → rowAt rows row i ≡ rowFoundSays y i

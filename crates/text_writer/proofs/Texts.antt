@@ -25,15 +25,16 @@ use Rattle.header.specs.declared.Header.{Header}
 use Rattle.header.specs.declared.Version.{Version}
 use Rattle.header.specs.Header.{versionOf, headerChars, writeHeader}
 use Rattle.text.specs.Signature.{lengthOfBytes, writeSignature}
-use Rattle.text.specs.Text.{Message, dataOf, within, inTurn, writeField, writeZone, writing, writeText}
+use Rattle.text.specs.Text.{Message, dataOf, within, inTurn, writeField, writeZone, writing, writeText, writeData}
 use Rattle.text_writer.specs.declared.Room.{Room}
 use Rattle.text_writer.specs.declared.Room.the-variants.{Takes, Refused as NoRoom}
 use Rattle.text_writer.specs.declared.TextWritten.{TextWritten}
 use Rattle.text_writer.specs.declared.TextWritten.the-variants.{Written, Refused}
-use Rattle.text_writer.specs.Writing.{messageOf, writeFirst, textWritten, writtenOver, roomOf, Inside, fieldChars, zoneChars, textChars}
+use Rattle.text_writer.specs.Writing.{messageOf, writeFirst, textWritten, writtenOver, WritePromised}
 use Rattle.text_writer.proofs.Headers.{header-is}
 use Rattle.text_writer.proofs.Zones.{never, same-room}
 use Rattle.text_writer.proofs.Fills.{chars-row}
+use Rattle.text_writer.specs.inner.Room.{roomOf, Inside, fieldChars, zoneChars, textChars}
 
 -- the three pieces of a text
 abbrev pieces : (a b c : Answer (List ℕ)) → Answer (List ℕ)
@@ -111,15 +112,15 @@ row-any (r ∷ d) zero i j e = e
 row-any (r ∷ d) (suc n) i j e = row-any d n i j e
 
 field-good : (d : Dictionary) (s : List ℕ) (before : List Field) (i : ℕ) (f : Field) (x : List ℕ) → writeField d s before i f ≡ good x → (x ≡ fieldChars d s f) × (f .start + f .length ≤ length s)
-unfolding writeField
+unfolding writeField writeData
 field-good d s before i f x e =
     by-bind (rowAt d (f .row) i) _ e λ r er e.
     by-check (leb (f .start + f .length) (length s)) _ _ _ e λ h e.
     by-check (not (among (f .row) (rowsOf before))) _ _ _ e λ _ e.
     by-check (not (f .cut && fixed r)) _ _ _ e λ _ e.
-    by-check (within (r .greatest) (f .length)) _ _ _ e λ _ e.
+    by-check (within (r .greatest) (length (dataOf s f))) _ _ _ e λ _ e.
     by-check (inTurn r [] (dataOf s f)) _ _ _ e λ _ e.
-    by-check (leb (r .least) (f .length)) _ _ _ e λ _ e.
+    by-check (leb (r .least) (length (dataOf s f))) _ _ _ e λ _ e.
     (sym (same-good e) ∙ sym (chars-row d s f (row-any d (f .row) i 0 er)), leb-true (f .start + f .length) (length s) h)
 
 zone-good : (d : Dictionary) (s : List ℕ) (before : List Field) (i : ℕ) (fs : List Field) (z : List ℕ) → writeZone d s before i fs ≡ good z → (z ≡ zoneChars d s fs) × Inside (length s) fs
@@ -165,12 +166,13 @@ module _ (d : Dictionary) (v : Version) (h : Header) (f : Fields) (g s : List �
       go (good t) q k = of-text n t q (sym (same-room k))
       go (refused j p) q k = never (sym k) refl
 
--- WHAT `write_text` PROMISES, and that there is only one possible answer
+-- WHAT `write_text` PROMISES leaves only one possible answer
+pub only-one : (h : Header) (f : Fields) (s source old new new′ : List ℕ) (r r′ : TextWritten) → WritePromised h f s source old new r → WritePromised h f s source old new′ r′ → (r ≡ r′) × (new ≡ new′)
+only-one h f s source old new new′ r r′ p q = (p .0 ∙ sym (q .0), p .1 ∙ sym (q .1))
+
+-- the same of any outcome
 abbrev pub Promised : Answer (List ℕ) → (old : List ℕ) → TextWritten → (new : List ℕ) → Type 0
 Promised o old r new = (r ≡ textWritten o) × (new ≡ writtenOver o old)
-
-pub only-one : (o : Answer (List ℕ)) (old : List ℕ) (r r′ : TextWritten) (new new′ : List ℕ) → Promised o old r new → Promised o old r′ new′ → (r ≡ r′) × (new ≡ new′)
-only-one o old r r′ new new′ p q = (p .0 ∙ sym (q .0), p .1 ∙ sym (q .1))
 
 pub refuses : {o : Answer (List ℕ)} {r : TextWritten} {k p : ℕ} (old : List ℕ) → r ≡ textWritten (refused k p) → refused k p ≡ o → Promised o old r old
 refuses old e f = (e ∙ ap textWritten f, ap (λ (x : Answer (List ℕ)). writtenOver x old) f)

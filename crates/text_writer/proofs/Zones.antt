@@ -15,7 +15,7 @@ use Rattle.dictionary.specs.declared.Field.{Field}
 use Rattle.text.specs.Text.{writeField, writeZone}
 use Rattle.text_writer.specs.declared.Room.{Room}
 use Rattle.text_writer.specs.declared.Room.the-variants.{Takes, Refused}
-use Rattle.text_writer.specs.Writing.{roomOf}
+use Rattle.text_writer.specs.inner.Room.{roomOf}
 
 -- the room of n characters and of those behind them
 abbrev pub behind : ℕ → Answer (List ℕ) → Room

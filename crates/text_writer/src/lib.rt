@@ -2,7 +2,7 @@
 // pass writes. So a refusal leaves the output as it was.
 use dictionary::Field;
 use dictionary::Fields;
-use dictionary::Limit;
+use dictionary::Greatest;
 use dictionary::Row;
 use header::Header;
 use header::Version;
@@ -10,7 +10,7 @@ use refusal::Refusal;
 ghost use mathlib.Core.Bool.{_&&_};
 ghost use mathlib.Core.Path.{_≡_};
 ghost use mathlib.Core.List.{List, []};
-ghost use Prim.Native.Nat.{_+_, _*_, _<_, _≤_};
+ghost use Prim.Native.Nat.{ℕ, _+_, _*_, _<_, _≤_};
 ghost use lib.ListN.{length, getD, take};
 ghost use Rattle.refusal.specs.Limits.{most-fields};
 ghost use Rattle.refusal.specs.Over.{over};
@@ -18,12 +18,13 @@ ghost use Rattle.refusal.specs.Among.{among};
 ghost use Rattle.refusal.specs.Answers.{good, refused};
 ghost use Rattle.dictionary.specs.Dictionary.{fixed, rowsOf};
 ghost use Rattle.dictionary.specs.Rows.{rows as theRows};
-ghost use Rattle.dictionary.specs.Lookup.{rowTable};
+ghost use Rattle.dictionary.specs.inner.Lookup.{rowTable};
 ghost use Rattle.dictionary.specs.declared.Field.{Field as FieldOf};
 ghost use Rattle.header.specs.Header.{size, versionOf, headerChars, writeHeader};
 ghost use Rattle.text.specs.Signature.{lengthOfBytes};
-ghost use Rattle.text.specs.Text.{within, inTurn, spelled, writeField, writeZone, writing};
-ghost use Rattle.text_writer.specs.Writing.{messageOf, writeFirst, textWritten, writtenOver, widest, roomOf, Below, writeData, markOf, Inside, fieldChars, zoneChars, textChars};
+ghost use Rattle.text.specs.Text.{within, inTurn, spelled, writeField, writeZone, writing, writeData, ending};
+ghost use Rattle.text_writer.specs.Writing.{messageOf, textWritten, WritePromised};
+ghost use Rattle.text_writer.specs.inner.Room.{widest, roomOf, Below, markChars, Inside, fieldChars, zoneChars, textChars};
 
 // The length of the text that was written.
 pub enum TextWritten {
@@ -82,16 +83,16 @@ fn is_taken(row: u16, rows: &[u16]) -> bool
     false
 }
 
-fn is_within(m: Limit, n: usize) -> bool
+fn is_within(m: Greatest, n: usize) -> bool
     ensures { λ x. ⌜ x ≡ within m n ⌝ }
 {
     match m {
-        Limit::UpTo(k) => n <= k,
-        Limit::NoLimit => true,
+        Greatest::UpTo(k) => n <= k,
+        Greatest::NoLimit => true,
     }
 }
 
-// 26 is "cut mark on a fixed field".
+// 26: fixed data have no cut mark.
 fn is_cut_wrong(r: Row, cut: bool) -> bool
     ensures { λ x. ⌜ x ≡ (cut && fixed r) ⌝ }
 {
@@ -115,16 +116,15 @@ fn all_stand(r: Row, chars: &[u8]) -> bool
     true
 }
 
-// "The data end at a 29, or at a 30 that marks them cut short"; behind data of the greatest length a 30 is the mark, and "otherwise
-// nothing separates them from the next field". 0 stands for none.
+// The mark behind n characters of data: 30 if they are cut, 29 if they could be longer, else none, for which 0 stands.
 fn mark_of(r: Row, n: usize, cut: bool) -> u8
-    ensures { λ x. ⌜ x ≡ markOf r n cut ⌝ }
+    ensures { λ x. ⌜ ((chars : List ℕ) → length chars ≡ n → markChars x ≡ ending r chars cut) ⌝ }
 {
     if cut {
         return 30;
     }
     let m = r.greatest;
-    if dictionary::is_limit(m, n) {
+    if dictionary::is_greatest(m, n) {
         return 0;
     }
     29
@@ -143,7 +143,7 @@ fn room_spelled(r: Row, chars: &[u8], cut: bool) -> usize
     n + 3
 }
 
-// Of a record's checks "31, 20, 26, 25, 18, 19" those from 26 on, which look at its data.
+// Of a record's checks those that look at its data: 26, 25, 18, 19.
 fn room_of_data(r: Row, chars: &[u8], cut: bool, i: usize) -> Room
     requires { ⌜ length (now chars) < widest ⌝ }
     ensures says { λ x. ⌜ x ≡ roomOf (writeData r (now (chars .entry)) cut i) ⌝ }
@@ -172,11 +172,11 @@ fn room_of_field(
     table: &[u8; dictionary::TABLE_SIZE],
     f: Field,
     rows: &[u16],
-    slice: &[u8],
+    source: &[u8],
     i: usize,
 ) -> Room
     requires { ⌜ now table ≡ rowTable ⌝ }
-    ensures says { λ x. ⌜ ((before : List FieldOf) → rowsOf before ≡ now (rows .entry) → x ≡ roomOf (writeField theRows (now (slice .entry)) before i f)) ⌝ }
+    ensures says { λ x. ⌜ ((before : List FieldOf) → rowsOf before ≡ now (rows .entry) → x ≡ roomOf (writeField theRows (now (source .entry)) before i f)) ⌝ }
     ensures small { λ x. ⌜ Below (widest + 3) x ⌝ }
 {
     let found = dictionary::row_at(table, row_number(f.row));
@@ -185,19 +185,19 @@ fn room_of_field(
     };
     let start = wide(f.start);
     let end = start + wide(f.length);
-    if slice.len() < end {
+    if source.len() < end {
         return refuse(refusal::BAD_RECORD, i);
     }
     if is_taken(f.row, rows) {
         return refuse(refusal::IDENTIFIER_REPEATED, i);
     }
-    room_of_data(r, &slice[start..end], f.cut, i)
+    room_of_data(r, &source[start..end], f.cut, i)
 }
 
-// "Record by record", to the end of one before the next. The rows so far stand in an array of their own, so that no call copies the list.
-fn room_of_zone(fields: Fields, slice: &[u8]) -> Room
+// The records one by one, to the end of one before the next. The rows so far stand in an array of their own, so that no call copies the list.
+fn room_of_zone(fields: Fields, source: &[u8]) -> Room
     requires { ⌜ fields .count ≤ most-fields ⌝ }
-    ensures says { λ x. ⌜ x ≡ roomOf (writeZone theRows (now (slice .entry)) [] 0 (take (fields .count) (fields .list))) ⌝ }
+    ensures says { λ x. ⌜ x ≡ roomOf (writeZone theRows (now (source .entry)) [] 0 (take (fields .count) (fields .list))) ⌝ }
     ensures small { λ x. ⌜ Below (most-fields * (widest + 3)) x ⌝ }
 {
     let table = dictionary::all_rows();
@@ -206,7 +206,7 @@ fn room_of_zone(fields: Fields, slice: &[u8]) -> Room
     let mut i = 0;
     while i < fields.count {
         let f = fields.list[i];
-        let one = room_of_field(&table, f, &rows[..i], slice, i);
+        let one = room_of_field(&table, f, &rows[..i], source, i);
         let Room::Takes(n) = one else {
             return one;
         };
@@ -239,7 +239,7 @@ fn room_of_header(h: Header, v: Version) -> Room
     Room::Takes(header_size(h, v))
 }
 
-// A signature has "64, 96 or 132 bytes".
+// The lengths of a signature, in bytes.
 fn is_signature(n: usize) -> bool
     ensures { λ x. ⌜ x ≡ lengthOfBytes n ⌝ }
 {
@@ -252,15 +252,15 @@ fn is_signature(n: usize) -> bool
 }
 
 // The header, then record by record, then 21.
-fn room_of_text(header: Header, v: Version, fields: Fields, slice: &[u8], signature: &[u8]) -> Room
+fn room_of_text(header: Header, v: Version, fields: Fields, source: &[u8], signature: &[u8]) -> Room
     requires { ⌜ (versionOf (getD (header .version) 0 0) (getD (header .version) 1 0) ≡ good v) × (fields .count ≤ most-fields) ⌝ }
-    ensures { λ x. ⌜ x ≡ roomOf (writing theRows (messageOf header fields (now (signature .entry))) (now (slice .entry))) ⌝ }
+    ensures { λ x. ⌜ x ≡ roomOf (writing theRows (messageOf header fields (now (signature .entry))) (now (source .entry))) ⌝ }
 {
     let head = room_of_header(header, v);
     let Room::Takes(h) = head else {
         return head;
     };
-    let zone = room_of_zone(fields, slice);
+    let zone = room_of_zone(fields, source);
     let Room::Takes(z) = zone else {
         return zone;
     };
@@ -293,12 +293,12 @@ fn write_spelled(r: Row, chars: &[u8], cut: bool, out: &mut [u8]) -> usize
 fn write_field(
     table: &[u8; dictionary::TABLE_SIZE],
     f: Field,
-    slice: &[u8],
+    source: &[u8],
     out: &mut [u8],
 ) -> usize
-    requires { ⌜ (now table ≡ rowTable) × (f .start + f .length ≤ length (now slice)) × (length (fieldChars theRows (now slice) f) ≤ length (now out)) ⌝ }
-    ensures is { λ x. ⌜ x ≡ length (fieldChars theRows (now (slice .entry)) f) ⌝ }
-    ensures written { λ x. ⌜ now (out .exit) ≡ over (fieldChars theRows (now (slice .entry)) f) (now (out .entry)) ⌝ }
+    requires { ⌜ (now table ≡ rowTable) × (f .start + f .length ≤ length (now source)) × (length (fieldChars theRows (now source) f) ≤ length (now out)) ⌝ }
+    ensures is { λ x. ⌜ x ≡ length (fieldChars theRows (now (source .entry)) f) ⌝ }
+    ensures written { λ x. ⌜ now (out .exit) ≡ over (fieldChars theRows (now (source .entry)) f) (now (out .entry)) ⌝ }
 {
     let found = dictionary::row_at(table, row_number(f.row));
     let dictionary::RowFound::Is(r) = found else {
@@ -306,60 +306,58 @@ fn write_field(
     };
     let start = wide(f.start);
     let end = start + wide(f.length);
-    write_spelled(r, &slice[start..end], f.cut, out)
+    write_spelled(r, &source[start..end], f.cut, out)
 }
 
 // The records side by side over the front of the output, and how many characters they are.
-fn write_zone(fields: Fields, slice: &[u8], out: &mut [u8]) -> usize
-    requires { ⌜ (fields .count ≤ most-fields) × Inside (length (now slice)) (take (fields .count) (fields .list)) × (length (zoneChars theRows (now slice) (take (fields .count) (fields .list))) ≤ length (now out)) ⌝ }
-    ensures is { λ x. ⌜ x ≡ length (zoneChars theRows (now (slice .entry)) (take (fields .count) (fields .list))) ⌝ }
-    ensures written { λ x. ⌜ now (out .exit) ≡ over (zoneChars theRows (now (slice .entry)) (take (fields .count) (fields .list))) (now (out .entry)) ⌝ }
+fn write_zone(fields: Fields, source: &[u8], out: &mut [u8]) -> usize
+    requires { ⌜ (fields .count ≤ most-fields) × Inside (length (now source)) (take (fields .count) (fields .list)) × (length (zoneChars theRows (now source) (take (fields .count) (fields .list))) ≤ length (now out)) ⌝ }
+    ensures is { λ x. ⌜ x ≡ length (zoneChars theRows (now (source .entry)) (take (fields .count) (fields .list))) ⌝ }
+    ensures written { λ x. ⌜ now (out .exit) ≡ over (zoneChars theRows (now (source .entry)) (take (fields .count) (fields .list))) (now (out .entry)) ⌝ }
 {
     let table = dictionary::all_rows();
     let mut p = 0;
     let mut i = 0;
     while i < fields.count {
         let f = fields.list[i];
-        let n = write_field(&table, f, slice, &mut out[p..]);
+        let n = write_field(&table, f, source, &mut out[p..]);
         p += n;
         i += 1;
     }
     p
 }
 
-// Header, records, the mark 31, and the signature, which is "written straight into the part of the output after the mark 31".
+// Header, records, the mark 31, and the signature, straight into the tail of the output behind the mark.
 fn write_parts(
     header: Header,
     v: Version,
     fields: Fields,
-    slice: &[u8],
+    source: &[u8],
     signature: &[u8],
     out: &mut [u8],
 )
-    requires { ⌜ (fields .count ≤ most-fields) × Inside (length (now slice)) (take (fields .count) (fields .list)) × (length (now signature) ≤ 132) × (length (textChars theRows v header fields (now signature) (now slice)) ≤ length (now out)) ⌝ }
-    ensures { λ _. ⌜ now (out .exit) ≡ over (textChars theRows v header fields (now (signature .entry)) (now (slice .entry))) (now (out .entry)) ⌝ }
+    requires { ⌜ (fields .count ≤ most-fields) × Inside (length (now source)) (take (fields .count) (fields .list)) × (length (now signature) ≤ 132) × (length (textChars theRows v header fields (now signature) (now source)) ≤ length (now out)) ⌝ }
+    ensures { λ _. ⌜ now (out .exit) ≡ over (textChars theRows v header fields (now (signature .entry)) (now (source .entry))) (now (out .entry)) ⌝ }
 {
     let h = header_size(header, v);
     header::write_header(header, v, out);
-    let n = write_zone(fields, slice, &mut out[h..]);
+    let n = write_zone(fields, source, &mut out[h..]);
     let m = h + n;
     out[m] = 31;
     let p = m + 1;
     base32::write_base32(signature, &mut out[p..]);
 }
 
-// A message as a text: "27 first (place 64); then 12, 13, 14 in the order above with the place in the header; then record by record 31,
-// 20, 26, 25, 18, 19; then 21 (place 0); then 5 (place 1,000); then 6 if the output is shorter than the text". The count says how many
+// A message as a text. In this order: 27; 12, 13, 14 with the place in the header; the records one by one; 21; 5; 6. The count says how many
 // records the caller has, of which the list holds 64 at most.
 pub fn write_text(
     header: Header,
     fields: Fields,
-    slice: &[u8],
+    source: &[u8],
     signature: &[u8],
     out: &mut [u8],
 ) -> TextWritten
-    ensures answer { λ r. ⌜ r ≡ textWritten (writeFirst theRows header fields (now (signature .entry)) (now (slice .entry)) (length (now (out .entry)))) ⌝ }
-    ensures lent { λ r. ⌜ now (out .exit) ≡ writtenOver (writeFirst theRows header fields (now (signature .entry)) (now (slice .entry)) (length (now (out .entry)))) (now (out .entry)) ⌝ }
+    ensures { λ r. ⌜ WritePromised header fields (now (signature .entry)) (now (source .entry)) (now (out .entry)) (now (out .exit)) r ⌝ }
 {
     if refusal::MOST_FIELDS < fields.count {
         return no_text(refusal::TOO_MANY_FIELDS, refusal::MOST_FIELDS);
@@ -367,7 +365,7 @@ pub fn write_text(
     let header::VersionRead::Known(v) = header::header_version(header) else {
         return no_text(refusal::UNKNOWN_VERSION, 2);
     };
-    let n = match room_of_text(header, v, fields, slice, signature) {
+    let n = match room_of_text(header, v, fields, source, signature) {
         Room::Takes(n) => n,
         Room::Refused(x) => {
             return TextWritten::Refused(x);
@@ -379,6 +377,6 @@ pub fn write_text(
     if out.len() < n {
         return no_text(refusal::LENT_TOO_SHORT, 0);
     }
-    write_parts(header, v, fields, slice, signature, out);
+    write_parts(header, v, fields, source, signature, out);
     TextWritten::Written(n)
 }

@@ -4,11 +4,11 @@ use mathlib.Core.Path.{_≡_, sym, _∙_}
 use native.Mathlib.Omega.{arith}
 use lib.ListN.{length, drop}
 use borrow.Author.Tests.{not-true, not-false}
-use Rattle.base32.specs.Base32.{leading}
 use Rattle.base32.proofs.Alphabet.{leads, stops, at-end}
 use borrow.Author.Needs.{needs}
 use Rattle.base32.proofs.count_leading.Statement.{statement}
 use Rattle.base32.proofs.count_leading.Tie as tie
+use Rattle.base32.specs.inner.Code.{leading}
 
 abbrev Inv-loop : tie.InvT-loop
 Inv-loop chars i₀ i = (i ≤ length chars) × (i + leading (drop i chars) ≡ leading chars)

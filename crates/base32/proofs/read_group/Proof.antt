@@ -5,11 +5,11 @@ use native.Mathlib.Omega.{arith}
 use lib.ListN.{length-set}
 use lib.Seq.{sets-eq}
 use Rattle.refusal.specs.Over.{over}
-use Rattle.base32.specs.Base32.{byte1, byte2, byte3, byte4, byte5}
 use Rattle.base32.proofs.Groups.{eight-chars}
 use borrow.Author.Needs.{needs}
 use Rattle.base32.proofs.read_group.Statement.{statement}
 use Rattle.base32.proofs.read_group.Tie as tie
+use Rattle.base32.specs.inner.Code.{byte1, byte2, byte3, byte4, byte5}
 
 value-at-requires : tie.Need-value-at-requires
 value-at-requires c κs = search needs

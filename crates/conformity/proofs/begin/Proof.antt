@@ -2,7 +2,7 @@
 use mathlib.Core.Path.{_∙_, ap}
 use Prim.Native.Nat.{ℕ}
 use mathlib.Core.Bool.{false}
-use Rattle.conformity.specs.Noted.{seen, marksOf}
+use Rattle.conformity.specs.inner.Noted.{seen, marksOf}
 use borrow.Author.Needs.{needs}
 use Rattle.conformity.proofs.begin.Statement.{statement}
 use Rattle.conformity.proofs.begin.Tie as tie

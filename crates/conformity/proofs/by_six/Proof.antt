@@ -1,5 +1,5 @@
 -- `by_six` meets its contract: B0 and B1 stand for each other. Assumes nothing.
-use Rattle.conformity.specs.Noted.{isThere}
+use Rattle.conformity.specs.inner.Noted.{isThere}
 use Rattle.conformity.proofs.Steps.{six-B0, six-B1, six-none}
 use borrow.Author.Needs.{needs}
 use Rattle.conformity.proofs.by_six.Statement.{statement}

@@ -1,6 +1,6 @@
 -- `by_star` meets its contract: 10 stands for each of 11, 12 and 13, and these three together for 10. Assumes nothing.
 use borrow.Author.Tests.{eq-eqb, ne-eqb}
-use Rattle.conformity.specs.Noted.{isThere}
+use Rattle.conformity.specs.inner.Noted.{isThere}
 use Rattle.conformity.proofs.Steps.{star-all, star-no-11, star-no-12, star-11, star-12, star-13, star-none}
 use borrow.Author.Needs.{needs}
 use Rattle.conformity.proofs.by_star.Statement.{statement}

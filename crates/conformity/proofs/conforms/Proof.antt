@@ -7,7 +7,7 @@ use lib.ListN.{take, drop}
 use lib.Seq.{getD-take}
 use Rattle.dictionary.specs.Dictionary.{noField}
 use Rattle.conformity.specs.declared.Seen.{Seen}
-use Rattle.conformity.specs.Noted.{begun, notedAll, decided}
+use Rattle.conformity.specs.inner.Noted.{begun, notedAll, decided}
 use Rattle.conformity.proofs.Listed.{next-noted, all-noted, counted, decided-right}
 use Rattle.conformity.proofs.Lengths.{list-long}
 use Rattle.conformity.proofs.conforms.Statement.{statement}

@@ -4,8 +4,7 @@ use mathlib.Core.Logic.{⊎-elim}
 use mathlib.Core.Path.{_≡_, refl, ap, sym, _∙_}
 use native.Mathlib.Omega.{arith}
 use borrow.Author.Tests.{not-true, not-false}
-use Rattle.conformity.specs.Conformity.{tableAt}
-use Rattle.conformity.specs.Noted.{noneMissing}
+use Rattle.conformity.specs.inner.Noted.{noneMissing, tableAt}
 use Rattle.conformity.proofs.Steps.{turn-ends, turn-replaced, turn-other}
 use borrow.Author.Needs.{needs}
 use Rattle.conformity.proofs.first_missing.Statement.{statement}

@@ -3,7 +3,7 @@ use mathlib.Core.List.{List}
 use mathlib.Core.Path.{sym, ap, _∙_}
 use Rattle.conformity.specs.Tables.{Exchange}
 use Rattle.conformity.specs.Conformity.{replaced}
-use Rattle.conformity.specs.Noted.{isThere}
+use Rattle.conformity.specs.inner.Noted.{isThere}
 use Rattle.conformity.proofs.Steps.{home-exchanges, school-exchanges, no-exchanges}
 use borrow.Author.Needs.{needs}
 use Rattle.conformity.proofs.is_replaced.Statement.{statement}

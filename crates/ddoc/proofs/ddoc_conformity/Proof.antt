@@ -38,8 +38,7 @@ use denote.Triple.Walked.{says, Stays, stay-none-slice, stay-none, walkOf, goes-
 use denote.Exit.{yes}
 use Rattle.dictionary.specs.declared.Field.{Field}
 use Rattle.conformity.specs.declared.Conformity.{Conformity}
-use Rattle.conformity.specs.Conformity.{conforms}
-use Rattle.conformity.specs.Noted.{answered}
+use Rattle.conformity.specs.Conformity.{conforms, conformityOf}
 use Rattle.ddoc.specs.Answers.{conformityAnswer}
 use Rattle.ddoc.specs.declared.Answer.{Answer}
 use Rattle.dictionary.proofs.Field as T
@@ -85,7 +84,7 @@ module _ {M : Type 1} (𝓤 : URA M) (H : Heap 𝓤) (A : Atoms 𝓤) (W : Given
   at = (vint w8 k₀ ∷ [], (vint w8 k₁ ∷ [], (sv ∷ [], tt)))
 
   abbrev right : Conformity
-  right = answered (conforms k₀ k₁ (x .now))
+  right = conformityOf (conforms k₀ k₁ (x .now))
 
   abbrev Post : Val → SProp 𝓤
   Post = walkOf 𝓤 H A checks.ended stayed (checks.clauses 𝓤 H A at-mem run) .post (((κ, tt), (q, tt), tt, a, at), tt)

@@ -1,10 +1,10 @@
 -- `read_whole` meets its contract: the message and the fields are those of one answer.
 -- Assumes nothing.
 use mathlib.Core.Path.{ap, _∙_}
-use Rattle.ddoc.specs.Answers.{wholeAnswer}
 use borrow.Author.Needs.{needs}
 use Rattle.ddoc.proofs.read_whole.Statement.{statement}
 use Rattle.ddoc.proofs.read_whole.Tie as tie
+use Rattle.ddoc.specs.inner.Whole.{wholeAnswer}
 
 read-text-requires : tie.Need-read-text-requires
 read-text-requires c κs = search needs

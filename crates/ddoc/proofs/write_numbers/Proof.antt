@@ -1,10 +1,7 @@
 -- `write_numbers` meets its contract: in each arm the answer of `write_text` is known, and its numbers are those of the writing.
 -- Assumes nothing.
 use mathlib.Core.Path.{sym, ap, _∙_}
-use lib.ListN.{length}
-use Rattle.dictionary.specs.Rows.{rows}
-use Rattle.text_writer.specs.Writing.{writeFirst}
-use Rattle.ddoc.proofs.Numbers.{text-numbers, text-numbers-are}
+use Rattle.ddoc.specs.Answers.{writtenAnswer}
 use borrow.Author.Needs.{needs}
 use Rattle.ddoc.proofs.write_numbers.Statement.{statement}
 use Rattle.ddoc.proofs.write_numbers.Tie as tie
@@ -26,9 +23,8 @@ same-length c = search needs
 
 returns : tie.Need-returns
 returns c =
-    let c5 = c .before .before .before .before .before in
-    let a = c5 .before .before .before .before .before .args in (
-      ap text-numbers (sym (c .before .answer .given .1) ∙ c5 .write-text .ensures .0) ∙ text-numbers-are (writeFirst rows (a .header) (a .f) (a .signature .now) (a .slice .now) (length (a .out .now))),
+    let c5 = c .before .before .before .before .before in (
+      ap writtenAnswer (sym (c .before .answer .given .1) ∙ c5 .write-text .ensures .0),
       c5 .write-text .ensures .1,
     )
 
@@ -38,9 +34,8 @@ same-length-2 c = search needs
 returns-2 : tie.Need-returns-2
 returns-2 c =
     let c2 = c .before .before in
-    let c6 = c2 .before .before .before .before in
-    let a = c6 .before .before .before .before .before .args in (
-      ap text-numbers (sym (c2 .answer2 .given .1) ∙ c6 .write-text .ensures .0) ∙ text-numbers-are (writeFirst rows (a .header) (a .f) (a .signature .now) (a .slice .now) (length (a .out .now))),
+    let c6 = c2 .before .before .before .before in (
+      ap writtenAnswer (sym (c2 .answer2 .given .1) ∙ c6 .write-text .ensures .0),
       c6 .write-text .ensures .1,
     )
 

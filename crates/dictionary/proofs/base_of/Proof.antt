@@ -1,6 +1,6 @@
 -- `base_of` meets its contract: the tests are those of the definition. Assumes nothing.
 use borrow.Author.Tests.{eq-eqb, ne-eqb}
-use Rattle.dictionary.specs.Lookup.{baseOf}
+use Rattle.dictionary.specs.inner.Lookup.{baseOf}
 use Rattle.dictionary.proofs.base_of.Statement.{statement}
 use Rattle.dictionary.proofs.base_of.Tie as tie
 

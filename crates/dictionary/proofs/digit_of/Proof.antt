@@ -1,6 +1,6 @@
 -- `digit_of` meets its contract: the tests are those of the definition. Assumes nothing.
 use borrow.Author.Tests.{lt-ltb, le-ltb}
-use Rattle.dictionary.specs.Lookup.{digitOf}
+use Rattle.dictionary.specs.inner.Lookup.{digitOf}
 use borrow.Author.Needs.{needs}
 use Rattle.dictionary.proofs.digit_of.Statement.{statement}
 use Rattle.dictionary.proofs.digit_of.Tie as tie

@@ -1,7 +1,7 @@
 -- `find_row` meets its contract: every row stands at the place of its identifier, so one look there decides.
 -- Assumes nothing.
 use native.Mathlib.Omega.{arith}
-use Rattle.dictionary.specs.Lookup.{placeOf, noRow}
+use Rattle.dictionary.specs.inner.Lookup.{placeOf, noRow}
 use Rattle.dictionary.specs.Rows.{rows}
 use Rattle.dictionary.proofs.Rows.{rows-numbered, rows-many, find-miss, look-hit, look-miss}
 use borrow.Author.Needs.{needs}

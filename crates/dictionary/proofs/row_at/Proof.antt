@@ -2,7 +2,7 @@
 use mathlib.Core.Path.{ap, _∙_}
 use native.Mathlib.Omega.{arith}
 use Rattle.refusal.specs.Answers.{good}
-use Rattle.dictionary.specs.Lookup.{noRow}
+use Rattle.dictionary.specs.inner.Lookup.{noRow}
 use Rattle.dictionary.specs.Rows.{rows}
 use Rattle.dictionary.proofs.Rows.{rows-many, row-there, row-past}
 use borrow.Author.Needs.{needs}

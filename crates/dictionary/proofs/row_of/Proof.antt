@@ -7,14 +7,14 @@ use Rattle.dictionary.proofs.row_of.Tie as tie
 mul-p : tie.Need-mul-p
 mul-p c = search needs
 
-add-limit-of : tie.Need-add-limit-of
-add-limit-of c = search needs
+add-greatest-of : tie.Need-add-greatest-of
+add-greatest-of c = search needs
 
-element-copy-out-limit-of : tie.Need-element-copy-out-limit-of
-element-copy-out-limit-of c = search needs
+element-copy-out-greatest-of : tie.Need-element-copy-out-greatest-of
+element-copy-out-greatest-of c = search needs
 
-limit-of-requires : tie.Need-limit-of-requires
-limit-of-requires c κs = search needs
+greatest-of-requires : tie.Need-greatest-of-requires
+greatest-of-requires c κs = search needs
 
 add-kind-of : tie.Need-add-kind-of
 add-kind-of c = search needs
@@ -47,16 +47,16 @@ returns : tie.Need-returns
 returns c =
     let s = c .before .before .before .before .before .before .before .before in
     let k = c .before .before .before .before in
-    table-row (s .args .table .now) (s .pre .0) _ (s .pre .1) _ _ _ (k .before .before .limit-of .ensures) (k .kind-of .ensures) (c .wide .ensures)
+    table-row (s .args .table .now) (s .pre .0) _ (s .pre .1) _ _ _ (k .before .before .greatest-of .ensures) (k .kind-of .ensures) (c .wide .ensures)
 
 pub row-of-spec : {M : Type 1} → statement M
 row-of-spec =
     tie.close
     (tie.spec
     mul-p
-    add-limit-of
-    element-copy-out-limit-of
-    limit-of-requires
+    add-greatest-of
+    element-copy-out-greatest-of
+    greatest-of-requires
     add-kind-of
     element-copy-out-kind-of
     kind-of-requires

@@ -4,7 +4,7 @@ use native.Mathlib.Omega.{arith}
 use lib.ListN.{take}
 use lib.Seq.{length-take-le}
 use Rattle.header.specs.Header.{parts}
-use Rattle.header.specs.Code.{verdict, versionSays}
+use Rattle.header.specs.inner.Code.{verdict, versionSays}
 use Rattle.header.proofs.Writes.{most-size, known-verdict, unknown-verdict}
 use borrow.Author.Needs.{needs}
 use Rattle.header.proofs.check_header.Statement.{statement}

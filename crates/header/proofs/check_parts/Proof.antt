@@ -1,7 +1,7 @@
 -- `check_parts` meets its contract: the first wrong character, or what is wrong behind the type. Assumes nothing.
 use mathlib.Core.Path.{sym, ap, _∙_}
 use native.Mathlib.Omega.{arith}
-use Rattle.header.specs.Code.{verdict}
+use Rattle.header.specs.inner.Code.{verdict}
 use Rattle.header.proofs.Sets.{narrow}
 use Rattle.header.proofs.Parts.{least-size, parts-wrong, verdict-tail}
 use borrow.Author.Needs.{needs}

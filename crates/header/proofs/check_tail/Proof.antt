@@ -4,7 +4,7 @@ use mathlib.Core.Path.{sym, ap, subst, _∙_}
 use native.Mathlib.Omega.{arith}
 use lib.ListN.{length}
 use Rattle.header.specs.Header.{size}
-use Rattle.header.specs.Code.{firstOf, tailVerdict}
+use Rattle.header.specs.inner.Code.{firstOf, tailVerdict}
 use Rattle.header.proofs.Parts.{tail-03, tail-04}
 use borrow.Author.Needs.{needs}
 use Rattle.header.proofs.check_tail.Statement.{statement}

@@ -3,7 +3,7 @@ use Prim.Native.Nat.{_-_, _≤_}
 use mathlib.Core.Path.{sym, _∙_}
 use native.Mathlib.Omega.{arith}
 use borrow.Author.Tests.{not-true, not-false}
-use Rattle.header.specs.Code.{Right}
+use Rattle.header.specs.inner.Code.{Right}
 use Rattle.header.proofs.Sets.{right-more}
 use borrow.Author.Needs.{needs}
 use Rattle.header.proofs.first_wrong.Statement.{statement}

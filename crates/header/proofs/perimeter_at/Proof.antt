@@ -4,7 +4,7 @@ use mathlib.Core.Path.{sym, ap, subst, _∙_}
 use native.Mathlib.Omega.{arith}
 use lib.ListN.{length}
 use Rattle.header.specs.Header.{size}
-use Rattle.header.specs.Code.{perimeterAt}
+use Rattle.header.specs.inner.Code.{perimeterAt}
 use borrow.Author.Needs.{needs}
 use Rattle.header.proofs.perimeter_at.Statement.{statement}
 use Rattle.header.proofs.perimeter_at.Tie as tie

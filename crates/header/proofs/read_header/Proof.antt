@@ -1,6 +1,6 @@
 -- `read_header` meets its contract: each return is a line of the definition. Assumes nothing.
 use mathlib.Core.Path.{sym, ap, _∙_}
-use Rattle.header.specs.Code.{versionSays, headerAnswer}
+use Rattle.header.specs.inner.Code.{versionSays, headerAnswer}
 use Rattle.header.proofs.Known.{head-short, head-first, head-second, head-version}
 use borrow.Author.Needs.{needs}
 use Rattle.header.proofs.read_header.Statement.{statement}

@@ -2,7 +2,7 @@
 use mathlib.Core.Path.{sym, ap, _∙_}
 use native.Mathlib.Omega.{arith}
 use Rattle.refusal.specs.Numbers.{refusal}
-use Rattle.header.specs.Code.{headerAnswer}
+use Rattle.header.specs.inner.Code.{headerAnswer}
 use Rattle.header.proofs.Known.{known-short, known-refused, known-good}
 use borrow.Author.Needs.{needs}
 use Rattle.header.proofs.read_known.Statement.{statement}

@@ -53,8 +53,8 @@ use Rattle.dictionary.specs.Dictionary.{noField}
 use Rattle.dictionary.specs.declared.Field.{Field}
 use Rattle.conformity.specs.declared.Seen.{Seen}
 use Rattle.conformity.specs.declared.Conformity.{Conformity}
-use Rattle.conformity.specs.Conformity.{conforms}
-use Rattle.conformity.specs.Noted.{answered, begun, noted, notedAll, decided}
+use Rattle.conformity.specs.Conformity.{conforms, conformityOf}
+use Rattle.conformity.specs.inner.Noted.{begun, noted, notedAll, decided}
 use Rattle.conformity.proofs.Listed.{next-noted, all-noted, decided-right}
 use Rattle.records.proofs.Tests.{goes-on, is-over}
 use Rattle.records.proofs.Values.{field, seen, seen-spelt}
@@ -141,7 +141,7 @@ module _ {M : Type 1} (𝓤 : URA M) (H : Heap 𝓤) (A : Atoms 𝓤) (W : Given
   abbrev Held : Seen → Type 0
   Held s = Is S.the-row s (seen s ∷ [])
 
-  exits : (r : Conformity) (v : Val) → r ≡ answered (conforms k₀ k₁ ys) → ent 𝓤 (⋆ 𝓤 H A (‵ (R.the-row .own r (v ∷ [])) ∷ Shared ∷ ‵ (flft κ q) ∷ Known ∷ [])) (Post v)
+  exits : (r : Conformity) (v : Val) → r ≡ conformityOf (conforms k₀ k₁ ys) → ent 𝓤 (⋆ 𝓤 H A (‵ (R.the-row .own r (v ∷ [])) ∷ Shared ∷ ‵ (flft κ q) ∷ Known ∷ [])) (Post v)
   exits r v e =
       qed W (‵ (R.the-row .own r (v ∷ [])) ∷ Shared ∷ ‵ (flft κ q) ∷ Known ∷ []) ∵
       suffices ! _ (ends-at 𝓤 H A listed.ended stayed (listed.clauses 𝓤 H A at-mem run) W (((κ, tt), (q, tt), tt, a, at), tt) v r (tt, (tt, (tt, tt))) (tt, (tt, (tt, tt)))) $ says ! e $
@@ -184,7 +184,7 @@ module _ {M : Type 1} (𝓤 : URA M) (H : Heap 𝓤) (A : Atoms 𝓤) (W : Given
   decide-said s r = exE 𝓤 _ (λ ws. snd∗ 𝓤 (sem 𝓤 H A (lasts decide.ended tt (s, tt) ws)) (fact 𝓤 (r ≡ decided s)))
 
   -- behind the last record the state is that of the whole list
-  right-answer : (i : ℕ) (s : Seen) → n ≤ i → Right i s → decided s ≡ answered (conforms k₀ k₁ ys)
+  right-answer : (i : ℕ) (s : Seen) → n ≤ i → Right i s → decided s ≡ conformityOf (conforms k₀ k₁ ys)
   right-answer i s h right = ap decided (sym (all-noted s i ys h) ∙ right) ∙ decided-right k₀ k₁ ys
 
   module _ (𝓣 : Tables 𝓤 H) (fm : FmC 𝓤 H (W .laws) (𝓣 .C)) (known-begin : Triple 𝓤 (𝓣 .C #conformity·begin) (Begin 𝓤 H A at-mem run)) (known-note : Triple 𝓤 (𝓣 .C #conformity·note) (Note 𝓤 H A at-mem run))

@@ -49,7 +49,7 @@ use denote.Triple.Clauses.{ensured, lasts}
 use denote.Triple.Walked.{says, needs, Stays, stay-slice, stay-none, walkOf, Walks, ends-at, walked, goes-slice, goes-none, walk-meets}
 use denote.Exit.{yes}
 use Rattle.dictionary.specs.Dictionary.{noField}
-use Rattle.records.specs.Lists.{pasted}
+use Rattle.records.specs.inner.Lists.{pasted}
 use Rattle.dictionary.specs.declared.Field.{Field}
 use Rattle.dictionary.specs.declared.Fields.{Fields}
 use Rattle.records.proofs.Pasted.{pasted-length, pasted-more}

@@ -52,7 +52,7 @@ use denote.Exit.{yes}
 use Rattle.dictionary.specs.Dictionary.{noField}
 use Rattle.dictionary.specs.declared.Field.{Field}
 use Rattle.dictionary.specs.declared.Fields.{Fields}
-use Rattle.records.specs.Lists.{noFields, pasted, withRecord, byValue}
+use Rattle.records.specs.inner.Lists.{noFields, pasted, withRecord, byValue}
 use Rattle.records.proofs.Pasted.{pasted-more}
 use Rattle.records.proofs.Tests.{goes-on, is-over}
 use Rattle.records.proofs.Values.{field, fields, fields-spelt}

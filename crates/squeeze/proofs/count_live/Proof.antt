@@ -5,7 +5,7 @@ use native.Mathlib.Omega.{arith}
 use lib.ListN.{length, getD, take}
 use Rattle.day_file.specs.Plain.{numbered}
 use Rattle.squeeze.specs.Squeeze.{liveOnes}
-use Rattle.squeeze.specs.Inner.{scansIn}
+use Rattle.squeeze.specs.inner.Code.{scansIn}
 use Rattle.day_file.proofs.Bytes.{Bytes}
 use Rattle.squeeze.proofs.Live.{no-live, count-more}
 use Rattle.squeeze.proofs.Walks.{small-count, in-list, start-here, state-here, inside-here, small-here, all-of}

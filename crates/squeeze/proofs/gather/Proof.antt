@@ -5,7 +5,7 @@ use native.Mathlib.Omega.{arith}
 use lib.ListN.{length, take}
 use Rattle.day_file.specs.File.{body}
 use Rattle.day_file.proofs.Bytes.{Bytes}
-use Rattle.squeeze.specs.Inner.{scansIn}
+use Rattle.squeeze.specs.inner.Code.{scansIn}
 use Rattle.squeeze.proofs.Gathered.{Gathered, none-gathered, start-now, keep-fits, one-gathered, all-gathered}
 use Rattle.squeeze.proofs.Walks.{small-count}
 use Rattle.squeeze.proofs.gather.Statement.{statement}

@@ -7,7 +7,7 @@ use Rattle.refusal.specs.Over.{over}
 use Rattle.day_file.specs.Plain.{numbered}
 use Rattle.day_file.proofs.Bytes.{Bytes}
 use Rattle.squeeze.specs.Squeeze.{liveOnes, oldNumbers}
-use Rattle.squeeze.specs.Inner.{scansIn}
+use Rattle.squeeze.specs.inner.Code.{scansIn}
 use Rattle.squeeze.proofs.Live.{no-old, number-fits, number-more, old-front, live-least-count}
 use Rattle.squeeze.proofs.Sizes.{old-count}
 use Rattle.squeeze.proofs.Walks.{small-count, count-is, in-list, start-here, state-here, inside-here, all-of}

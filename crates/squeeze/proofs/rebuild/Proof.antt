@@ -6,7 +6,7 @@ use lib.ListN.{length}
 use Rattle.day_file.specs.File.{bytesOf}
 use Rattle.day_file.proofs.Bytes.{Bytes}
 use Rattle.squeeze.specs.Squeeze.{liveOnes}
-use Rattle.squeeze.specs.Inner.{scansIn}
+use Rattle.squeeze.specs.inner.Code.{scansIn}
 use Rattle.squeeze.proofs.Walks.{small-count}
 use Rattle.squeeze.proofs.Rebuilt.{new-fits, new-size, records-stand, length-k, whole-is}
 use borrow.Author.Needs.{needs}

@@ -8,7 +8,7 @@ use Rattle.day_file.proofs.Numbered.{not-known}
 use Rattle.refusal.specs.Answers.{Answer}
 use Rattle.refusal.specs.Over.{over}
 use Rattle.squeeze.specs.Squeeze.{liveOnes, upFrom, squeezing, squeezedSlice, oldsAfter, newsAfter}
-use Rattle.squeeze.specs.Inner.{scansIn, Opens}
+use Rattle.squeeze.specs.inner.Code.{scansIn, Opens}
 use Rattle.squeeze.specs.Answers.{squeezedAnswer}
 use Rattle.squeeze.specs.declared.Squeezed.the-variants.{Done}
 use Rattle.squeeze.proofs.Live.{live-least-count}

@@ -1,7 +1,7 @@
 -- `count_file` meets its contract. Assumes nothing.
 use mathlib.Core.Path.{sym, ap, _∙_}
 use native.Mathlib.Omega.{arith}
-use Rattle.tally.specs.Inner.{scansIn}
+use Rattle.tally.specs.inner.Code.{scansIn}
 use Rattle.tally.proofs.Here.{opened-is}
 use Rattle.tally.specs.Answers.{countedAnswer}
 use Rattle.tally.proofs.Counts.{file-not, file-good, not-opened}

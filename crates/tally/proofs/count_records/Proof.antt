@@ -7,7 +7,7 @@ use Rattle.day_file.specs.File.{body}
 use Rattle.day_file.specs.Opening.{twoAt, scanAt}
 use Rattle.day_file.specs.Plain.{numbered}
 use Rattle.day_file.proofs.Bytes.{Bytes}
-use Rattle.tally.specs.Inner.{scansIn}
+use Rattle.tally.specs.inner.Code.{scansIn}
 use Rattle.tally.proofs.Here.{sums, count-is, in-list, start-here, at-it, length-here, inside-here}
 use Rattle.tally.specs.Counting.{addScan, addAll}
 use Rattle.tally.specs.Answers.{countedAnswer}

@@ -3,7 +3,7 @@ use mathlib.Core.Path.{sym, ap, _∙_}
 use borrow.Author.Tests.{not-true, not-false}
 use Rattle.refusal.specs.Numbers.{refusal}
 use Rattle.base32.proofs.Groups.{length-decoded}
-use Rattle.text.specs.Code.{signatureAnswer}
+use Rattle.text.specs.inner.Code.{signatureAnswer}
 use Rattle.text.proofs.Signs.{all-lead, length-most, sign-wrong-at, sign-length, sign-spare, sign-good}
 use borrow.Author.Needs.{needs}
 use Rattle.text.proofs.read_signature.Statement.{statement}

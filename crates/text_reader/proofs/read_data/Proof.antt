@@ -6,9 +6,9 @@ use mathlib.Core.Path.{_≡_, sym, ap, subst, _∙_}
 use native.Mathlib.Omega.{arith}
 use native.Mathlib.Numerals.{add-one}
 use lib.Seq.{slice}
-use Rattle.dictionary.specs.Lookup.{soFar}
+use Rattle.dictionary.specs.inner.Lookup.{soFar}
 use Rattle.text.specs.Zone.{readData}
-use Rattle.text_reader.specs.Code.{stepSays, StepFits}
+use Rattle.text_reader.specs.inner.Code.{stepSays, StepFits}
 use Rattle.text_reader.proofs.Steps.{at-start, end-whole, end-open}
 use borrow.Author.Needs.{needs}
 use Rattle.text_reader.proofs.read_data.Statement.{statement}
@@ -60,22 +60,22 @@ loop-again c =
 sub-n : tie.Need-sub-n Inv-loop μ-loop
 sub-n c = search needs
 
-is-limit-requires : tie.Need-is-limit-requires Inv-loop μ-loop
-is-limit-requires c κs = search needs
+is-greatest-requires : tie.Need-is-greatest-requires Inv-loop μ-loop
+is-greatest-requires c κs = search needs
 
 returns-2 : tie.Need-returns-2 Inv-loop μ-loop
 returns-2 c =
     let l = c .before .before .before .loop in
     let s = c .before .before .before .before .before in
     let q : s .args .end ≡ l .p = omega (arith, l .inv .1, c .before .before .loop-test .left) in
-    (end-whole _ _ _ _ _ (s .pre .0) (s .pre .1) _ (c .before .is-limit .ensures) (c .if1 .taken) _ q ∙ l .inv .2, omega arith)
+    (end-whole _ _ _ _ _ (s .pre .0) (s .pre .1) _ (c .before .is-greatest .ensures) (c .if1 .taken) _ q ∙ l .inv .2, omega arith)
 
 returns-3 : tie.Need-returns-3 Inv-loop μ-loop
 returns-3 c =
     let l = c .before .before .before .loop in
     let s = c .before .before .before .before .before in
     let q : s .args .end ≡ l .p = omega (arith, l .inv .1, c .before .before .loop-test .left) in
-    (end-open _ _ _ _ _ (s .pre .0) (s .pre .1) _ (c .before .is-limit .ensures) (c .if1 .left) _ q ∙ l .inv .2, tt)
+    (end-open _ _ _ _ _ (s .pre .0) (s .pre .1) _ (c .before .is-greatest .ensures) (c .if1 .left) _ q ∙ l .inv .2, tt)
 
 pub read-data-spec : {M : Type 1} → statement M
 read-data-spec =
@@ -92,6 +92,6 @@ read-data-spec =
     loop-less
     loop-again
     sub-n
-    is-limit-requires
+    is-greatest-requires
     returns-2
     returns-3)

@@ -1,7 +1,7 @@
 -- `read_field` meets its contract: each return is a law of the zone's first field, by the tests that led there. Assumes nothing.
 use mathlib.Core.Path.{sym, ap, subst, _∙_}
 use native.Mathlib.Omega.{arith}
-use Rattle.text_reader.specs.Code.{fieldSays, FieldFits}
+use Rattle.text_reader.specs.inner.Code.{fieldSays, FieldFits}
 use Rattle.text_reader.proofs.Turns.{on-half, on-unknown, on-row, on-repeated, on-full, on-one, one-fits}
 use borrow.Author.Needs.{needs}
 use Rattle.text_reader.proofs.read_field.Statement.{statement}

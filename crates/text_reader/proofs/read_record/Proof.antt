@@ -3,7 +3,7 @@
 use Prim.Native.Nat.{_+_}
 use mathlib.Core.Path.{sym, ap, subst, _∙_}
 use native.Mathlib.Omega.{arith}
-use Rattle.text_reader.specs.Code.{DataFits, rowSays, RowFits}
+use Rattle.text_reader.specs.inner.Code.{DataFits, rowSays, RowFits}
 use Rattle.text_reader.proofs.Turns.{data-refused, data-short, data-whole}
 use borrow.Author.Needs.{needs}
 use Rattle.text_reader.proofs.read_record.Statement.{statement}

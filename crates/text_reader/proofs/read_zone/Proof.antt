@@ -8,8 +8,7 @@ use Rattle.dictionary.specs.Rows.{rowCount}
 use Rattle.dictionary.specs.declared.Fields.{Fields}
 use Rattle.text_reader.specs.declared.Outcome.the-variants.{Refused}
 use Rattle.text_reader.specs.declared.FieldRead.the-variants.{One}
-use Rattle.text_reader.specs.Answers.{zoneAnswer}
-use Rattle.text_reader.specs.Code.{FieldFits}
+use Rattle.text_reader.specs.inner.Code.{FieldFits, zoneAnswer}
 use Rattle.text_reader.proofs.Zones.{Filled, filled-start, filled-count, filled-size, filled-end, filled-refused, filled-more}
 use borrow.Author.Needs.{needs}
 use Rattle.text_reader.proofs.read_zone.Statement.{statement}

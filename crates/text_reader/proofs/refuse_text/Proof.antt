@@ -1,10 +1,10 @@
 -- `refuse_text` meets its contract: zeros beside the refusal. Assumes nothing.
 use lib.ListN.{replicate}
-use Rattle.header.specs.Code.{noHeader}
 use Rattle.text_reader.specs.declared.Outcome.the-variants.{Refused}
 use borrow.Author.Needs.{needs}
 use Rattle.text_reader.proofs.refuse_text.Statement.{statement}
 use Rattle.text_reader.proofs.refuse_text.Tie as tie
+use Rattle.header.specs.Header.{noHeader}
 
 no-fields-requires : tie.Need-no-fields-requires
 no-fields-requires c κs = search needs

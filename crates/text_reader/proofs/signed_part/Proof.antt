@@ -1,11 +1,11 @@
 -- `signed_part` meets its contract: the signed part stands within the text, and a refused text has the length 0. Assumes nothing.
 use Prim.Native.Nat.{_≤_}
-use mathlib.Core.Path.{sym, ap, subst, _∙_}
+use mathlib.Core.Path.{_≡_, sym, ap, subst, _∙_}
 use lib.ListN.{length, take}
 use lib.Seq.{length-take-le}
 use Rattle.refusal.specs.Limits.{most-fields}
 use Rattle.dictionary.specs.Rows.{rows}
-use Rattle.text.specs.Text.{readText, signedPart}
+use Rattle.text.specs.Text.{readText}
 use Rattle.text_reader.specs.declared.TextRead.{TextRead}
 use Rattle.text_reader.proofs.Whole.{part-within, part-is}
 use borrow.Author.Needs.{needs}
@@ -19,13 +19,15 @@ slice-aggregate-result : tie.Need-slice-aggregate-result
 slice-aggregate-result c =
     let t = c .before .before .before .args .text .now in
     let e = c .before .read-text .ensures in
-    sym (length-take-le (c .before .read-text .result .«signed_length») t (subst (λ (r : TextRead). r .«signed_length» ≤ length t) (sym e) (part-within most-fields t)))
+    sym (length-take-le (c .before .read-text .result .«signed_length») t (subst (λ (r : TextRead). r .«signed_length» ≤ length t) (sym e) (part-within _ t)))
 
 returns : tie.Need-returns
-unfolding signedPart
 returns c =
     let t = c .before .before .before .args .text .now in
-    ap (λ (r : TextRead). take (r .«signed_length») t) (c .before .read-text .ensures) ∙ part-is (readText rows most-fields t) t
+    let n = c .before .read-text .result .«signed_length» in
+    let e = c .before .read-text .ensures in
+    let long : length (take n t) ≡ n = length-take-le n t (subst (λ (r : TextRead). r .«signed_length» ≤ length t) (sym e) (part-within _ t)) in
+    (ap (λ k. take k t) (sym long), long ∙ ap (λ (r : TextRead). r .«signed_length») e ∙ part-is (readText rows most-fields t))
 
 pub signed-part-spec : {M : Type 1} → statement M
 signed-part-spec = tie.close (tie.spec read-text-requires slice-aggregate-result returns)

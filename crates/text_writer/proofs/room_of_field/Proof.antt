@@ -7,11 +7,12 @@ use Rattle.refusal.specs.Among.{among}
 use Rattle.refusal.specs.Answers.{good}
 use Rattle.dictionary.specs.Dictionary.{rowAt}
 use Rattle.dictionary.specs.Rows.{rows as theRows}
-use Rattle.text_writer.specs.Writing.{roomOf, writeData}
 use Rattle.text_writer.proofs.Records.{refused-below, row-is, part-is, field-nowhere, field-outside, field-repeated, field-data}
 use borrow.Author.Needs.{needs}
 use Rattle.text_writer.proofs.room_of_field.Statement.{statement}
 use Rattle.text_writer.proofs.room_of_field.Tie as tie
+use Rattle.text_writer.specs.inner.Room.{roomOf}
+use Rattle.text.specs.Text.{writeData}
 
 row-number-requires : tie.Need-row-number-requires
 row-number-requires c κs = search needs
@@ -31,7 +32,7 @@ refuse-requires c κs = search needs
 returns : tie.Need-returns
 returns c =
     let s = c .before .before .before .before .before .before .before .args in
-    (λ before e. c .refuse .ensures ∙ field-nowhere theRows (s .slice .now) before (s .i) (s .f) (row-is (s .f .row) _ (s .i) (c .before .before .before .before .row-number .ensures) (c .before .before .before .row-at .ensures) (c .before .enum-told .given .1)), refused-below _ (c .refuse .ensures))
+    (λ before e. c .refuse .ensures ∙ field-nowhere theRows (s .source .now) before (s .i) (s .f) (row-is (s .f .row) _ (s .i) (c .before .before .before .before .row-number .ensures) (c .before .before .before .row-at .ensures) (c .before .enum-told .given .1)), refused-below _ (c .refuse .ensures))
 
 -- the row that the record names
 row : (c : tie.After-found) → let s = c .before .before .before .before .before .before .args in rowAt theRows (s .f .row) (s .i) ≡ good (c .found .given .0 .0)
@@ -53,7 +54,7 @@ returns-2 : tie.Need-returns-2
 returns-2 c =
     let f = c .before .before .before .before .before in
     let s = f .before .before .before .before .before .before .args in (
-      λ before e. c .refuse2 .ensures ∙ field-outside theRows (s .slice .now) before (s .i) (s .f) _ (row f) (omega (arith, c .before .if1 .taken, c .before .before .wide2 .ensures .0, c .before .before .before .wide .ensures .0)),
+      λ before e. c .refuse2 .ensures ∙ field-outside theRows (s .source .now) before (s .i) (s .f) _ (row f) (omega (arith, c .before .if1 .taken, c .before .before .wide2 .ensures .0, c .before .before .before .wide .ensures .0)),
       refused-below _ (c .refuse2 .ensures),
     )
 
@@ -68,7 +69,7 @@ returns-3 c =
     let w = c .before .before .before .before in
     let f = w .before .before .before in
     let s = f .before .before .before .before .before .before .args in (
-      λ before e. c .refuse3 .ensures ∙ field-repeated theRows (s .slice .now) before (s .i) (s .f) _ (row f) (omega (arith, c .before .before .before .if1 .left, w .wide2 .ensures .0, w .before .wide .ensures .0))
+      λ before e. c .refuse3 .ensures ∙ field-repeated theRows (s .source .now) before (s .i) (s .f) _ (row f) (omega (arith, c .before .before .before .if1 .left, w .wide2 .ensures .0, w .before .wide .ensures .0))
           (ap (among (s .f .row)) e ∙ sym (c .before .before .is-taken .ensures) ∙ c .before .if2 .taken),
       refused-below _ (c .refuse3 .ensures),
     )
@@ -91,10 +92,10 @@ returns-4 c =
     let f = w .before .before .before in
     let s = f .before .before .before .before .before .before .args in
     let r = f .found .given .0 .0 in
-    let h : s .f .start + s .f .length ≤ length (s .slice .now) = omega (arith, c .before .before .before .before .if1 .left, w .wide2 .ensures .0, w .before .wide .ensures .0) in (
+    let h : s .f .start + s .f .length ≤ length (s .source .now) = omega (arith, c .before .before .before .before .if1 .left, w .wide2 .ensures .0, w .before .wide .ensures .0) in (
       λ before e. c .room-of-data .ensures .0
-          ∙ ap (λ l. roomOf (writeData r l (s .f .cut) (s .i))) (part-is (s .slice .now) (w .before .wide .ensures .0) (w .wide2 .ensures .0))
-          ∙ ap roomOf (field-data theRows (s .slice .now) before (s .i) (s .f) r (row f) h
+          ∙ ap (λ l. roomOf (writeData r l (s .f .cut) (s .i))) (part-is (s .source .now) (w .before .wide .ensures .0) (w .wide2 .ensures .0))
+          ∙ ap roomOf (field-data theRows (s .source .now) before (s .i) (s .f) r (row f) h
           (ap (among (s .f .row)) e ∙ sym (c .before .before .before .is-taken .ensures) ∙ c .before .before .if2 .left)),
       c .room-of-data .ensures .1,
     )

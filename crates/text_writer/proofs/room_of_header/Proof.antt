@@ -3,11 +3,11 @@ use mathlib.Core.Path.{sym, ap, _∙_}
 use native.Mathlib.Omega.{arith}
 use Rattle.header.specs.Header.{writeHeader}
 use Rattle.text_writer.specs.declared.Room.the-variants.{Takes}
-use Rattle.text_writer.specs.Writing.{roomOf}
 use Rattle.text_writer.proofs.Headers.{with-number, header-good}
 use borrow.Author.Needs.{needs}
 use Rattle.text_writer.proofs.room_of_header.Statement.{statement}
 use Rattle.text_writer.proofs.room_of_header.Tie as tie
+use Rattle.text_writer.specs.inner.Room.{roomOf}
 
 check-header-requires : tie.Need-check-header-requires
 check-header-requires c κs = search needs

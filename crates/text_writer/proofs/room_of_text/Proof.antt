@@ -12,11 +12,12 @@ use Rattle.header.specs.Header.{writeHeader}
 use Rattle.text.specs.Signature.{lengthOfBytes}
 use Rattle.text.specs.Text.{writeZone}
 use Rattle.text_writer.specs.declared.Room.the-variants.{Takes}
-use Rattle.text_writer.specs.Writing.{messageOf, widest, roomOf, Below}
+use Rattle.text_writer.specs.Writing.{messageOf}
 use Rattle.text_writer.proofs.Texts.{take-most, signature-most, header-refused, zone-refuses, signature-refused, text-takes}
 use borrow.Author.Needs.{needs}
 use Rattle.text_writer.proofs.room_of_text.Statement.{statement}
 use Rattle.text_writer.proofs.room_of_text.Tie as tie
+use Rattle.text_writer.specs.inner.Room.{widest, roomOf, Below}
 
 room-of-header-requires : tie.Need-room-of-header-requires
 room-of-header-requires c κs = search needs
@@ -31,7 +32,7 @@ returns : tie.Need-returns
 returns c =
     let c5 = c .before .before .before .before .before in
     let s = c5 .args in
-    header-refused theRows (messageOf (s .header) (s .fields) (s .signature .now)) (s .slice .now) (omega (arith, take-most (s .fields .count) (s .fields .list), c5 .pre .1)) (c .before .before .room-of-header .ensures .0) (c .enum-told .given .1)
+    header-refused theRows (messageOf (s .header) (s .fields) (s .signature .now)) (s .source .now) (omega (arith, take-most (s .fields .count) (s .fields .list), c5 .pre .1)) (c .before .before .room-of-header .ensures .0) (c .enum-told .given .1)
 
 -- the header and the zone, where they are not refused
 head : (c : tie.After-head) → (Takes (c .head .given .0 .0) ≡ roomOf (writeHeader (c .before .before .before .before .before .args .header))) × (c .head .given .0 .0 < 27)
@@ -39,7 +40,7 @@ head c = (sym (c .head .given .1) ∙ c .before .before .room-of-header .ensures
 
 zone : (c : tie.After-zone) →
     let s = c .before .before .before .before .before .before .before .before .before .args in
-    (Takes (c .zone .given .0 .0) ≡ roomOf (writeZone theRows (s .slice .now) [] 0 (take (s .fields .count) (s .fields .list)))) × (c .zone .given .0 .0 < 64 * (widest + 3))
+    (Takes (c .zone .given .0 .0) ≡ roomOf (writeZone theRows (s .source .now) [] 0 (take (s .fields .count) (s .fields .list)))) × (c .zone .given .0 .0 < 64 * (widest + 3))
 zone c = (sym (c .zone .given .1) ∙ c .before .before .room-of-zone .ensures .0, subst (Below (64 * (widest + 3))) (c .zone .given .1) (c .before .before .room-of-zone .ensures .1))
 
 -- the signature: its length is one of three, so it is small
@@ -63,7 +64,7 @@ returns-2 c =
     let h = c .before .before .before .before in
     let start = h .before .before .before .before .before in
     let s = start .args in
-    zone-refuses theRows (messageOf (s .header) (s .fields) (s .signature .now)) (s .slice .now) (omega (arith, take-most (s .fields .count) (s .fields .list), start .pre .1)) (head h .0) (c .before .before .room-of-zone .ensures .0) (c .enum-told2 .given .1)
+    zone-refuses theRows (messageOf (s .header) (s .fields) (s .signature .now)) (s .source .now) (omega (arith, take-most (s .fields .count) (s .fields .list), start .pre .1)) (head h .0) (c .before .before .room-of-zone .ensures .0) (c .enum-told2 .given .1)
 
 is-signature-requires : tie.Need-is-signature-requires
 is-signature-requires c κs = search needs
@@ -77,7 +78,7 @@ returns-3 c =
     let start = z .before .before .before .before .before .before .before .before .before in
     let s = start .args in
     c .refuse .ensures ∙
-    signature-refused theRows (messageOf (s .header) (s .fields) (s .signature .now)) (s .slice .now) (omega (arith, take-most (s .fields .count) (s .fields .list), start .pre .1)) (head (z .before .before .before .before) .0) (zone z .0)
+    signature-refused theRows (messageOf (s .header) (s .fields) (s .signature .now)) (s .source .now) (omega (arith, take-most (s .fields .count) (s .fields .list), start .pre .1)) (head (z .before .before .before .before) .0) (zone z .0)
     (sym (c .before .before .is-signature .ensures) ∙ not-true _ (c .before .if1 .taken))
 
 add-t13 : tie.Need-add-t13
@@ -100,7 +101,7 @@ returns-4 c =
     let z = c .before .before .before in
     let start = z .before .before .before .before .before .before .before .before .before in
     let s = start .args in
-    text-takes theRows (messageOf (s .header) (s .fields) (s .signature .now)) (s .slice .now) (omega (arith, take-most (s .fields .count) (s .fields .list), start .pre .1)) (head (z .before .before .before .before) .0) (zone z .0) _
+    text-takes theRows (messageOf (s .header) (s .fields) (s .signature .now)) (s .source .now) (omega (arith, take-most (s .fields .count) (s .fields .list), start .pre .1)) (head (z .before .before .before .before) .0) (zone z .0) _
     (signed c) (length-encoded (s .signature .now))
 
 pub room-of-text-spec : {M : Type 1} → statement M

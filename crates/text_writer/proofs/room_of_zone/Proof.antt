@@ -9,21 +9,21 @@ use lib.Seq.{length-take-le}
 use Rattle.dictionary.specs.Rows.{rows as theRows}
 use Rattle.dictionary.specs.Dictionary.{rowsOf}
 use Rattle.text.specs.Text.{writeZone}
-use Rattle.text_writer.specs.Writing.{widest, roomOf, Below}
 use Rattle.text_writer.proofs.Records.{told-below}
 use Rattle.text_writer.proofs.Whole.{in-list}
 use Rattle.text_writer.proofs.Zones.{behind, behind-none, zone-refused, zone-next, zone-end, rows-next}
 use borrow.Author.Needs.{needs}
 use Rattle.text_writer.proofs.room_of_zone.Statement.{statement}
 use Rattle.text_writer.proofs.room_of_zone.Tie as tie
+use Rattle.text_writer.specs.inner.Room.{widest, roomOf, Below}
 
 abbrev Inv-loop : tie.InvT-loop
-Inv-loop slice fields table rows₀ total₀ i₀ rows total i =
+Inv-loop source fields table rows₀ total₀ i₀ rows total i =
     (i ≤ fields .count) × (length rows ≡ 64) × (total ≤ (widest + 2) * i) × (take i rows ≡ rowsOf (take i (take (fields .count) (fields .list))))
-    × (behind total (writeZone theRows slice (take i (take (fields .count) (fields .list))) i (drop i (take (fields .count) (fields .list)))) ≡ roomOf (writeZone theRows slice [] 0 (take (fields .count) (fields .list))))
+    × (behind total (writeZone theRows source (take i (take (fields .count) (fields .list))) i (drop i (take (fields .count) (fields .list)))) ≡ roomOf (writeZone theRows source [] 0 (take (fields .count) (fields .list))))
 
 abbrev μ-loop : tie.MeasureT-loop
-μ-loop slice fields table rows₀ total₀ i₀ rows total i = fields .count - i
+μ-loop source fields table rows₀ total₀ i₀ rows total i = fields .count - i
 
 all-rows-requires : tie.Need-all-rows-requires Inv-loop μ-loop
 all-rows-requires c κs = search needs
@@ -31,7 +31,7 @@ all-rows-requires c κs = search needs
 loop-holds : tie.Need-loop-holds Inv-loop μ-loop
 loop-holds c =
     let s = c .before .before .args in
-    (omega arith, refl, omega arith, refl, behind-none (writeZone theRows (s .slice .now) [] 0 (take (s .t1 .count) (s .t1 .list))))
+    (omega arith, refl, omega arith, refl, behind-none (writeZone theRows (s .source .now) [] 0 (take (s .t1 .count) (s .t1 .list))))
 
 mul-f : tie.Need-mul-f Inv-loop μ-loop
 mul-f c = search needs
@@ -62,7 +62,7 @@ returns c =
     let s = start .args in
     let l = c .before .before .before .before .before .before .before .loop in
     let few = in-list (s .t1) _ (start .good .0) (start .pre) in (
-      zone-refused (s .t1 .list) (s .t1 .count) few theRows (s .slice .now) (l .i) (l .total) (c .before .before .before .before .before .before .loop-test .taken) (c .before .before .room-of-field .ensures .0 _ (sym (l .inv .3))) (c .enum-told .given .1) ∙ l .inv .4,
+      zone-refused (s .t1 .list) (s .t1 .count) few theRows (s .source .now) (l .i) (l .total) (c .before .before .before .before .before .before .loop-test .taken) (c .before .before .room-of-field .ensures .0 _ (sym (l .inv .3))) (c .enum-told .given .1) ∙ l .inv .4,
       told-below _ (c .enum-told .given .1),
     )
 
@@ -95,7 +95,7 @@ loop-again c =
       simp length-set (l .inv .1),
       omega (arith, small, l .inv .2),
       rows-next (s .t1 .list) (s .t1 .count) few (l .rows) (l .i) (omega (arith, at, l .inv .1, start .pre)) at (l .inv .3),
-      zone-next (s .t1 .list) (s .t1 .count) few theRows (s .slice .now) (l .i) (l .total) _ at (sym (c .before .one .given .1) ∙ c .before .before .before .room-of-field .ensures .0 _ (sym (l .inv .3))) ∙ l .inv .4,
+      zone-next (s .t1 .list) (s .t1 .count) few theRows (s .source .now) (l .i) (l .total) _ at (sym (c .before .one .given .1) ∙ c .before .before .before .room-of-field .ensures .0 _ (sym (l .inv .3))) ∙ l .inv .4,
     )
 
 returns-2 : tie.Need-returns-2 Inv-loop μ-loop
@@ -104,7 +104,7 @@ returns-2 c =
     let s = start .args in
     let l = c .before .loop in
     let few = in-list (s .t1) _ (start .good .0) (start .pre) in (
-      zone-end (s .t1 .list) (s .t1 .count) few theRows (s .slice .now) (l .i) (l .total) (c .loop-test .left) ∙ l .inv .4,
+      zone-end (s .t1 .list) (s .t1 .count) few theRows (s .source .now) (l .i) (l .total) (c .loop-test .left) ∙ l .inv .4,
       omega (arith, l .inv .2, l .inv .0, start .pre),
     )
 

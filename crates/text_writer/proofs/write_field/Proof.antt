@@ -7,12 +7,12 @@ use lib.ListN.{length, take, drop}
 use Rattle.refusal.specs.Over.{over}
 use Rattle.dictionary.specs.Rows.{rows as theRows}
 use Rattle.text.specs.Text.{spelled}
-use Rattle.text_writer.specs.Writing.{fieldChars}
 use Rattle.text_writer.proofs.Records.{row-is, part-is, data-length}
 use Rattle.text_writer.proofs.Fills.{chars-none, chars-row}
 use borrow.Author.Needs.{needs}
 use Rattle.text_writer.proofs.write_field.Statement.{statement}
 use Rattle.text_writer.proofs.write_field.Tie as tie
+use Rattle.text_writer.specs.inner.Room.{fieldChars}
 
 row-number-requires : tie.Need-row-number-requires
 row-number-requires c κs = search needs
@@ -29,19 +29,19 @@ enum-told c = search needs
 returns : tie.Need-returns
 returns c =
     let s = c .before .before .before .before .before .before .args in
-    let e = chars-none theRows (s .slice .now) (s .f) (row-is (s .f .row) _ 0 (c .before .before .before .row-number .ensures) (c .before .before .row-at .ensures) (c .enum-told .given .1)) in
+    let e = chars-none theRows (s .source .now) (s .f) (row-is (s .f .row) _ 0 (c .before .before .before .row-number .ensures) (c .before .before .row-at .ensures) (c .enum-told .given .1)) in
     (ap length (sym e), ap (λ (x : List ℕ). over x (s .out .now)) (sym e))
 
 -- the data, as the part of the slice that is lent on, spelled by the row that the record names
 spells : (c : tie.After-wide2) →
     let f = c .before .before .before in
     let s = f .before .before .before .before .before .before .args in
-    spelled (f .found .given .0 .0) (take ((c .before .wide .result + c .wide2 .result) - c .before .wide .result) (drop (c .before .wide .result) (s .slice .now))) (s .f .cut) ≡ fieldChars theRows (s .slice .now) (s .f)
+    spelled (f .found .given .0 .0) (take ((c .before .wide .result + c .wide2 .result) - c .before .wide .result) (drop (c .before .wide .result) (s .source .now))) (s .f .cut) ≡ fieldChars theRows (s .source .now) (s .f)
 spells c =
     let f = c .before .before .before in
     let s = f .before .before .before .before .before .before .args in
-    ap (λ (l : List ℕ). spelled (f .found .given .0 .0) l (s .f .cut)) (part-is (s .slice .now) (c .before .wide .ensures .0) (c .wide2 .ensures .0)) ∙
-    sym (chars-row theRows (s .slice .now) (s .f) (row-is (s .f .row) _ 0 (f .before .before .before .row-number .ensures) (f .before .before .row-at .ensures) (f .found .given .1)))
+    ap (λ (l : List ℕ). spelled (f .found .given .0 .0) l (s .f .cut)) (part-is (s .source .now) (c .before .wide .ensures .0) (c .wide2 .ensures .0)) ∙
+    sym (chars-row theRows (s .source .now) (s .f) (row-is (s .f .row) _ 0 (f .before .before .before .row-number .ensures) (f .before .before .row-at .ensures) (f .found .given .1)))
 
 wide-requires : tie.Need-wide-requires
 wide-requires c κs = search needs
@@ -66,8 +66,8 @@ write-spelled-requires c κs =
     let w = c .before .before in
     let start = w .before .before .before .before .before .before .before .before .before in
     let s = start .args in
-    let p = part-is (s .slice .now) (w .before .wide .ensures .0) (w .wide2 .ensures .0) in (
-      omega (arith, ap length p, data-length (s .slice .now) (s .f) (start .pre .1), w .wide2 .ensures),
+    let p = part-is (s .source .now) (w .before .wide .ensures .0) (w .wide2 .ensures .0) in (
+      omega (arith, ap length p, data-length (s .source .now) (s .f) (start .pre .1), w .wide2 .ensures),
       omega (arith, ap length (spells w), start .pre .2),
     )
 

@@ -7,11 +7,11 @@ use Rattle.base32.specs.Base32.{encoded}
 use Rattle.base32.proofs.Groups.{part-length, length-encoded}
 use Rattle.dictionary.specs.Rows.{rows as theRows}
 use Rattle.header.specs.Header.{headerChars}
-use Rattle.text_writer.specs.Writing.{zoneChars}
 use Rattle.text_writer.proofs.Fills.{text-length, ahead-long, marked-long, whole, whole-long}
 use borrow.Author.Needs.{needs}
 use Rattle.text_writer.proofs.write_parts.Statement.{statement}
 use Rattle.text_writer.proofs.write_parts.Tie as tie
+use Rattle.text_writer.specs.inner.Room.{zoneChars}
 
 header-size-requires : tie.Need-header-size-requires
 header-size-requires c κs = search needs
@@ -21,7 +21,7 @@ write-header-requires c κs =
     let b = c .before .before .before .before .before in
     let s = b .args in
     let front = headerChars (s .v) (s .header) in
-    let zone = zoneChars theRows (s .slice .now) (take (s .fields .count) (s .fields .list)) in
+    let zone = zoneChars theRows (s .source .now) (take (s .fields .count) (s .fields .list)) in
     let all = text-length front zone (encoded (s .signature .now)) in
     let size = c .before .header-size .ensures in
     omega (arith, all, b .pre .3, size)
@@ -31,7 +31,7 @@ sub-write-zone c =
     let b = c .before .before .before .before .before .before .before .before in
     let s = b .args in
     let front = headerChars (s .v) (s .header) in
-    let zone = zoneChars theRows (s .slice .now) (take (s .fields .count) (s .fields .list)) in
+    let zone = zoneChars theRows (s .source .now) (take (s .fields .count) (s .fields .list)) in
     let all = text-length front zone (encoded (s .signature .now)) in
     let size = c .before .before .before .before .header-size .ensures in
     omega (arith, all, b .pre .3, size .0, c .before .out .given)
@@ -48,7 +48,7 @@ write-zone-requires c κs =
     let b = c5 .before .before .before .before in
     let s = b .args in
     let front = headerChars (s .v) (s .header) in
-    let zone = zoneChars theRows (s .slice .now) (take (s .fields .count) (s .fields .list)) in
+    let zone = zoneChars theRows (s .source .now) (take (s .fields .count) (s .fields .list)) in
     let all = text-length front zone (encoded (s .signature .now)) in
     let size = c5 .header-size .ensures in
     (b .pre .0, b .pre .1, omega (arith, all, b .pre .3, size .0, c .before .before .out .given, part-length (c .before .before .before .write-header .last .1 .1 .0) (c5 .header-size .result)))
@@ -58,7 +58,7 @@ add-m c =
     let b = c .before .before .before .before .before .before .before .before .before .before .before .before in
     let s = b .args in
     let front = headerChars (s .v) (s .header) in
-    let zone = zoneChars theRows (s .slice .now) (take (s .fields .count) (s .fields .list)) in
+    let zone = zoneChars theRows (s .source .now) (take (s .fields .count) (s .fields .list)) in
     let all = text-length front zone (encoded (s .signature .now)) in
     let size = c .before .before .before .before .before .before .before .before .header-size .ensures in
     omega (arith, all, b .pre .3, size .0, c .before .before .write-zone .ensures .0)
@@ -71,7 +71,7 @@ slice-write-out c =
     let b = z .before .before .before .before in
     let s = b .args in
     let front = headerChars (s .v) (s .header) in
-    let zone = zoneChars theRows (s .slice .now) (take (s .fields .count) (s .fields .list)) in
+    let zone = zoneChars theRows (s .source .now) (take (s .fields .count) (s .fields .list)) in
     let sign = encoded (s .signature .now) in
     let h = z .header-size .result in
     let n = w .write-zone .result in
@@ -89,7 +89,7 @@ sub-write-base32 c =
     let b = z .before .before .before .before in
     let s = b .args in
     let front = headerChars (s .v) (s .header) in
-    let zone = zoneChars theRows (s .slice .now) (take (s .fields .count) (s .fields .list)) in
+    let zone = zoneChars theRows (s .source .now) (take (s .fields .count) (s .fields .list)) in
     let sign = encoded (s .signature .now) in
     let h = z .header-size .result in
     let n = w .write-zone .result in
@@ -110,7 +110,7 @@ write-base32-requires c κs =
     let b = z .before .before .before .before in
     let s = b .args in
     let front = headerChars (s .v) (s .header) in
-    let zone = zoneChars theRows (s .slice .now) (take (s .fields .count) (s .fields .list)) in
+    let zone = zoneChars theRows (s .source .now) (take (s .fields .count) (s .fields .list)) in
     let sign = encoded (s .signature .now) in
     let h = z .header-size .result in
     let n = w .write-zone .result in
@@ -127,7 +127,7 @@ same-length c =
     let b = z .before .before .before .before in
     let s = b .args in
     let front = headerChars (s .v) (s .header) in
-    let zone = zoneChars theRows (s .slice .now) (take (s .fields .count) (s .fields .list)) in
+    let zone = zoneChars theRows (s .source .now) (take (s .fields .count) (s .fields .list)) in
     let sign = encoded (s .signature .now) in
     let h = z .header-size .result in
     let n = w .write-zone .result in
@@ -141,7 +141,7 @@ returns c =
     let b = z .before .before .before .before in
     let s = b .args in
     let front = headerChars (s .v) (s .header) in
-    let zone = zoneChars theRows (s .slice .now) (take (s .fields .count) (s .fields .list)) in
+    let zone = zoneChars theRows (s .source .now) (take (s .fields .count) (s .fields .list)) in
     let sign = encoded (s .signature .now) in
     let h = z .header-size .result in
     let n = w .write-zone .result in

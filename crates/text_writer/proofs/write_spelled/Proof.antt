@@ -8,7 +8,6 @@ use borrow.Rule.Slice.PartMut.{putMid}
 use Rattle.refusal.specs.Over.{over}
 use Rattle.refusal.proofs.Over.{over-tail}
 use Rattle.base32.proofs.Groups.{part-length}
-use Rattle.text_writer.specs.Writing.{markOf}
 use Rattle.text_writer.proofs.Checks.{spelled-whole, spelled-marked}
 use Rattle.text_writer.proofs.Fills.{two-over, copied, one-over, spelled-least}
 use borrow.Author.Needs.{needs}
@@ -66,7 +65,7 @@ returns c =
     let c8 = c .before .before .before .before .before .before .before .before in
     let s = c8 .args in
     let front = two-over (s .out .now) (s .r .first) (s .r .second) (omega (arith, c8 .pre .1)) in
-    let e = spelled-whole (s .r) (s .chars .now) (s .cut) (sym (c .before .before .before .before .before .mark-of .ensures) ∙ c .if1 .taken) in (
+    let e = spelled-whole (s .r) (s .chars .now) (s .cut) (c .before .before .before .before .before .mark-of .ensures (s .chars .now) refl) (c .if1 .taken) in (
       omega (arith, ap length e),
       over-tail (s .r .first ∷ s .r .second ∷ []) (s .chars .now) (s .out .now) _ _ 2 refl front (copied (s .chars .now) _ (c .before .before .before .copy .ensures)) ∙ ap (λ (x : List ℕ). over x (s .out .now)) (sym e),
     )
@@ -81,8 +80,8 @@ slice-write-out-3 c =
     let l = set (set (s .out .now) 0 (s .r .first)) 1 (s .r .second) in
     let a = length-set (set (s .out .now) 0 (s .r .first)) 1 (s .r .second) in
     let b = length-set (s .out .now) 0 (s .r .first) in
-    let e = spelled-marked (s .r) (s .chars .now) (s .cut) (λ z. c .if1 .left (c .before .before .before .before .before .mark-of .ensures ∙ z)) in
-    omega (arith, a, b, c .before .before .out .given, c8 .pre .1, ap length e, length-append (s .chars .now) (markOf (s .r) (length (s .chars .now)) (s .cut) ∷ []))
+    let e = spelled-marked (s .r) (s .chars .now) (s .cut) (c .before .before .before .before .before .mark-of .ensures (s .chars .now) refl) (c .if1 .left) in
+    omega (arith, a, b, c .before .before .out .given, c8 .pre .1, ap length e, length-append (s .chars .now) (c .before .before .before .before .before .mark-of .result ∷ []))
 
 add-result-2 : tie.Need-add-result-2
 add-result-2 c = search needs
@@ -102,11 +101,11 @@ returns-2 c =
     let c8 = c5 .before .before .before in
     let s = c8 .args in
     let front = two-over (s .out .now) (s .r .first) (s .r .second) (omega (arith, c8 .pre .1)) in
-    let e = spelled-marked (s .r) (s .chars .now) (s .cut) (λ z. c .if1 .left (c5 .mark-of .ensures ∙ z)) in
-    let n = ap length e ∙ ap (λ k. suc (suc k)) (length-append (s .chars .now) (markOf (s .r) (length (s .chars .now)) (s .cut) ∷ [])) in (
+    let e = spelled-marked (s .r) (s .chars .now) (s .cut) (c5 .mark-of .ensures (s .chars .now) refl) (c .if1 .left) in
+    let n = ap length e ∙ ap (λ k. suc (suc k)) (length-append (s .chars .now) (c5 .mark-of .result ∷ [])) in (
       omega (arith, n),
       one-over (s .r .first ∷ s .r .second ∷ s .chars .now) (s .out .now) _ _ _ (over-tail (s .r .first ∷ s .r .second ∷ []) (s .chars .now) (s .out .now) _ _ 2 refl front (copied (s .chars .now) _ (c .before .before .before .copy .ensures))) (omega arith) (omega (arith, n, c8 .pre .1))
-          ∙ ap (λ m. over (s .r .first ∷ s .r .second ∷ (s .chars .now ++ (m ∷ []))) (s .out .now)) (c5 .mark-of .ensures) ∙ ap (λ (x : List ℕ). over x (s .out .now)) (sym e),
+          ∙ ap (λ (x : List ℕ). over x (s .out .now)) (sym e),
     )
 
 pub write-spelled-spec : {M : Type 1} → statement M

@@ -4,7 +4,7 @@ use mathlib.Core.Path.{sym, ap, _∙_}
 use native.Mathlib.Omega.{arith}
 use lib.ListN.{length}
 use Rattle.dictionary.specs.Rows.{rows as theRows}
-use Rattle.header.specs.Code.{versionSays}
+use Rattle.header.specs.inner.Code.{versionSays}
 use Rattle.text_writer.proofs.Texts.{Accepted, accepted, refuses, too-many, unknown, inside-refused, too-long, no-room, written-whole}
 use borrow.Author.Needs.{needs}
 use Rattle.text_writer.proofs.write_text.Statement.{statement}
@@ -16,7 +16,7 @@ no-text-requires c κs = search needs
 returns : tie.Need-returns
 returns c =
     let s = c .before .before .before .before .before .before .args in
-    refuses (s .out .now) (c .no-text .ensures) (too-many theRows (s .header) (s .fields) (s .signature .now) (s .slice .now) (length (s .out .now)) (c .before .if1 .taken))
+    refuses (s .out .now) (c .no-text .ensures) (too-many theRows (s .header) (s .fields) (s .signature .now) (s .source .now) (length (s .out .now)) (c .before .if1 .taken))
 
 header-version-requires : tie.Need-header-version-requires
 header-version-requires c κs = search needs
@@ -33,7 +33,7 @@ no-text-requires-2 c κs = search needs
 returns-2 : tie.Need-returns-2
 returns-2 c =
     let s = c .before .before .before .before .before .before .before .before .before .args in
-    refuses (s .out .now) (c .no-text2 .ensures) (unknown theRows (s .header) (s .fields) (s .signature .now) (s .slice .now) (length (s .out .now)) (c .before .before .before .before .if1 .left) (ap versionSays (sym (c .before .enum-told .given .1)) ∙ c .before .before .before .header-version .ensures))
+    refuses (s .out .now) (c .no-text2 .ensures) (unknown theRows (s .header) (s .fields) (s .signature .now) (s .source .now) (length (s .out .now)) (c .before .before .before .before .if1 .left) (ap versionSays (sym (c .before .enum-told .given .1)) ∙ c .before .before .before .header-version .ensures))
 
 room-of-text-requires : tie.Need-room-of-text-requires
 room-of-text-requires c κs = (sym (c .before .before .before .header-version .ensures) ∙ ap versionSays (c .before .v .given .1), c .before .before .before .before .if1 .left)
@@ -48,17 +48,17 @@ enum-known-x c = search needs
 whole : (c : tie.After-n) →
     let v = c .before .before .before .before in
     let s = v .before .before .before .before .before .before .before .before .args in
-    Accepted theRows (v .v .given .0 .0) (s .header) (s .fields) (s .signature .now) (s .slice .now) (c .n .given .0 .0)
+    Accepted theRows (v .v .given .0 .0) (s .header) (s .fields) (s .signature .now) (s .source .now) (c .n .given .0 .0)
 whole c =
     let v = c .before .before .before .before in
     let s = v .before .before .before .before .before .before .before .before .args in
-    accepted theRows _ (s .header) (s .fields) (s .signature .now) (s .slice .now) (sym (v .before .before .header-version .ensures) ∙ ap versionSays (v .v .given .1)) (sym (c .n .given .1) ∙ c .before .before .room-of-text .ensures)
+    accepted theRows _ (s .header) (s .fields) (s .signature .now) (s .source .now) (sym (v .before .before .header-version .ensures) ∙ ap versionSays (v .v .given .1)) (sym (c .n .given .1) ∙ c .before .before .room-of-text .ensures)
 
 returns-3 : tie.Need-returns-3
 returns-3 c =
     let c8 = c .before .before .before .before .before .before .before .before in
     let s = c8 .before .before .before .before .before .args in
-    inside-refused theRows (s .header) (s .fields) (s .signature .now) (s .slice .now) (length (s .out .now)) (c8 .if1 .left) (s .out .now) (sym (c .before .x .given .1) ∙ c .before .before .before .room-of-text .ensures)
+    inside-refused theRows (s .header) (s .fields) (s .signature .now) (s .source .now) (length (s .out .now)) (c8 .if1 .left) (s .out .now) (sym (c .before .x .given .1) ∙ c .before .before .before .room-of-text .ensures)
 
 no-text-requires-3 : tie.Need-no-text-requires-3
 no-text-requires-3 c κs = search needs
@@ -68,7 +68,7 @@ returns-4 c =
     let n = c .before .before .before in
     let c10 = n .before .before .before .before .before .before .before in
     let s = c10 .before .before .before .before .before .args in
-    refuses (s .out .now) (c .no-text3 .ensures) (too-long theRows (s .header) (s .fields) (s .signature .now) (s .slice .now) (length (s .out .now)) (c10 .if1 .left) _ (whole n) (c .before .if2 .taken))
+    refuses (s .out .now) (c .no-text3 .ensures) (too-long theRows (s .header) (s .fields) (s .signature .now) (s .source .now) (length (s .out .now)) (c10 .if1 .left) _ (whole n) (c .before .if2 .taken))
 
 no-text-requires-4 : tie.Need-no-text-requires-4
 no-text-requires-4 c κs = search needs
@@ -78,7 +78,7 @@ returns-5 c =
     let n = c .before .before .before .before in
     let c11 = n .before .before .before .before .before .before .before in
     let s = c11 .before .before .before .before .before .args in
-    refuses (s .out .now) (c .no-text4 .ensures) (no-room theRows (s .header) (s .fields) (s .signature .now) (s .slice .now) (length (s .out .now)) (c11 .if1 .left) _ (whole n) (c .before .before .if2 .left) (c .before .if3 .taken))
+    refuses (s .out .now) (c .no-text4 .ensures) (no-room theRows (s .header) (s .fields) (s .signature .now) (s .source .now) (length (s .out .now)) (c11 .if1 .left) _ (whole n) (c .before .before .if2 .left) (c .before .if3 .taken))
 
 write-parts-requires : tie.Need-write-parts-requires
 write-parts-requires c κs =
@@ -94,7 +94,7 @@ returns-6 c =
     let n = c .before .before .before .before .before .before .before in
     let c14 = n .before .before .before .before .before .before .before in
     let s = c14 .before .before .before .before .before .args in
-    written-whole theRows (s .header) (s .fields) (s .signature .now) (s .slice .now) (length (s .out .now)) (c14 .if1 .left) _ (whole n) (c .before .before .before .before .before .if2 .left) (s .out .now) _ (c .before .before .before .before .if3 .left) (c .before .before .write-parts .ensures)
+    written-whole theRows (s .header) (s .fields) (s .signature .now) (s .source .now) (length (s .out .now)) (c14 .if1 .left) _ (whole n) (c .before .before .before .before .before .if2 .left) (s .out .now) _ (c .before .before .before .before .if3 .left) (c .before .before .write-parts .ensures)
 
 pub write-text-spec : {M : Type 1} → statement M
 write-text-spec =

@@ -8,21 +8,21 @@ use Rattle.refusal.specs.Over.{over}
 use Rattle.base32.proofs.Groups.{part-length}
 use Rattle.dictionary.specs.Rows.{rows as theRows}
 use Rattle.dictionary.specs.declared.Field.{Field}
-use Rattle.text_writer.specs.Writing.{zoneChars}
 use Rattle.text_writer.proofs.Whole.{in-list}
 use Rattle.text_writer.proofs.Zones.{first-all}
 use Rattle.text_writer.proofs.Fills.{zone-none, zone-over, more-long, zone-fits, inside-at}
 use borrow.Author.Needs.{needs}
 use Rattle.text_writer.proofs.write_zone.Statement.{statement}
 use Rattle.text_writer.proofs.write_zone.Tie as tie
+use Rattle.text_writer.specs.inner.Room.{zoneChars}
 
 abbrev Inv-loop : tie.InvT-loop
-Inv-loop slice out₀ fields table p₀ i₀ out p i =
-    (i ≤ fields .count) × (p ≡ length (zoneChars theRows slice (take i (take (fields .count) (fields .list)))))
-    × (out ≡ over (zoneChars theRows slice (take i (take (fields .count) (fields .list)))) out₀) × (length out ≡ length out₀)
+Inv-loop source out₀ fields table p₀ i₀ out p i =
+    (i ≤ fields .count) × (p ≡ length (zoneChars theRows source (take i (take (fields .count) (fields .list)))))
+    × (out ≡ over (zoneChars theRows source (take i (take (fields .count) (fields .list)))) out₀) × (length out ≡ length out₀)
 
 abbrev μ-loop : tie.MeasureT-loop
-μ-loop slice out₀ fields table p₀ i₀ out p i = fields .count - i
+μ-loop source out₀ fields table p₀ i₀ out p i = fields .count - i
 
 all-rows-requires : tie.Need-all-rows-requires Inv-loop μ-loop
 all-rows-requires c κs = search needs
@@ -30,7 +30,7 @@ all-rows-requires c κs = search needs
 loop-holds : tie.Need-loop-holds Inv-loop μ-loop
 loop-holds c =
     let s = c .before .before .before .args in
-    (omega arith, ap length (sym (zone-none theRows (s .slice .now))), ap (λ (x : List ℕ). over x (s .out .now)) (sym (zone-none theRows (s .slice .now))), refl)
+    (omega arith, ap length (sym (zone-none theRows (s .source .now))), ap (λ (x : List ℕ). over x (s .out .now)) (sym (zone-none theRows (s .source .now))), refl)
 
 mul-f : tie.Need-mul-f Inv-loop μ-loop
 mul-f c = search needs
@@ -44,7 +44,7 @@ sub-write-field c =
     let s = start .args in
     let l = c .before .before .before .loop in
     let few = in-list (s .t1) _ (start .good .0) (start .pre .0) in
-    let fits = zone-fits theRows (s .slice .now) (s .t1 .list) (s .t1 .count) few (l .i) (c .before .before .loop-test .taken) in
+    let fits = zone-fits theRows (s .source .now) (s .t1 .list) (s .t1 .count) few (l .i) (c .before .before .loop-test .taken) in
     omega (arith, fits, start .pre .2, l .inv .1, l .inv .3)
 
 part-write-field-start : tie.Need-part-write-field-start Inv-loop μ-loop
@@ -59,9 +59,9 @@ write-field-requires c κs =
     let s = start .args in
     let l = c .before .before .before .before .loop in
     let few = in-list (s .t1) _ (start .good .0) (start .pre .0) in
-    let fits = zone-fits theRows (s .slice .now) (s .t1 .list) (s .t1 .count) few (l .i) (c .before .before .before .loop-test .taken) in (
+    let fits = zone-fits theRows (s .source .now) (s .t1 .list) (s .t1 .count) few (l .i) (c .before .before .before .loop-test .taken) in (
       c .before .before .before .before .before .all-rows .ensures,
-      inside-at (length (s .slice .now)) (s .t1 .list) (s .t1 .count) (l .i) few (c .before .before .before .loop-test .taken) (start .pre .1),
+      inside-at (length (s .source .now)) (s .t1 .list) (s .t1 .count) (l .i) few (c .before .before .before .loop-test .taken) (start .pre .1),
       omega (arith, fits, start .pre .2, l .inv .1, l .inv .3, part-length (l .out) (l .p)),
     )
 
@@ -71,7 +71,7 @@ add-p c =
     let s = start .args in
     let l = c .before .before .before .before .before .before .before .loop in
     let few = in-list (s .t1) _ (start .good .0) (start .pre .0) in
-    let fits = zone-fits theRows (s .slice .now) (s .t1 .list) (s .t1 .count) few (l .i) (c .before .before .before .before .before .before .loop-test .taken) in
+    let fits = zone-fits theRows (s .source .now) (s .t1 .list) (s .t1 .count) few (l .i) (c .before .before .before .before .before .before .loop-test .taken) in
     omega (arith, fits, start .pre .2, l .inv .1, c .before .before .write-field .ensures .0)
 
 add-i : tie.Need-add-i Inv-loop μ-loop
@@ -88,8 +88,8 @@ loop-again c =
     let few = in-list (s .t1) _ (start .good .0) (start .pre .0) in
     let at = c .before .before .before .before .before .before .loop-test .taken in (
       omega (arith, at),
-      omega (arith, more-long theRows (s .slice .now) (s .t1 .list) (s .t1 .count) few (l .i) at, l .inv .1, c .before .before .write-field .ensures .0),
-      zone-over theRows (s .slice .now) (s .t1 .list) (s .t1 .count) few (l .i) at (s .out .now) (l .out) _ (l .p) (l .inv .1) (l .inv .2) (c .before .before .write-field .ensures .1),
+      omega (arith, more-long theRows (s .source .now) (s .t1 .list) (s .t1 .count) few (l .i) at, l .inv .1, c .before .before .write-field .ensures .0),
+      zone-over theRows (s .source .now) (s .t1 .list) (s .t1 .count) few (l .i) at (s .out .now) (l .out) _ (l .p) (l .inv .1) (l .inv .2) (c .before .before .write-field .ensures .1),
       omega (arith, c .before .out .given, l .inv .3),
     )
 
@@ -103,7 +103,7 @@ returns c =
     let l = c .before .loop in
     let few = in-list (s .t1) _ (start .good .0) (start .pre .0) in
     let all = first-all (s .t1 .list) (s .t1 .count) few (l .i) (c .loop-test .left) in
-    (l .inv .1 ∙ ap (λ (x : List Field). length (zoneChars theRows (s .slice .now) x)) all, l .inv .2 ∙ ap (λ (x : List Field). over (zoneChars theRows (s .slice .now) x) (s .out .now)) all)
+    (l .inv .1 ∙ ap (λ (x : List Field). length (zoneChars theRows (s .source .now) x)) all, l .inv .2 ∙ ap (λ (x : List Field). over (zoneChars theRows (s .source .now) x) (s .out .now)) all)
 
 pub write-zone-spec : {M : Type 1} → statement M
 write-zone-spec =

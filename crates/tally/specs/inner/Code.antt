@@ -6,7 +6,7 @@ use Rattle.day_file.specs.File.{Scan}
 use Rattle.day_file.specs.Opening.{records}
 use Rattle.day_file.specs.Answers.{openedAnswer}
 use Rattle.day_file.specs.declared.Opened.the-variants.{Good}
-use Rattle.squeeze.specs.Inner.{listOf}
+use Rattle.squeeze.specs.inner.Code.{listOf}
 
 -- the scans of a file that is good, and none of another
 abbrev pub scansIn : (f : List ℕ) → List Scan

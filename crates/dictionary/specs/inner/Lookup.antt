@@ -1,15 +1,16 @@
 -- What the code's answers say, its table of numbers and how it is read, and the place where it looks for an identifier.
 use Prim.Native.Nat.{ℕ, _+_, _-_}
+use mathlib.Core.Bool.{Bool, true, _&&_}
 use mathlib.Core.List.{List, [], _∷_}
-use lib.Dec.{eqb, ltb}
+use lib.Dec.{eqb, ltb, leb}
 use lib.ListN.{take, drop}
 use Rattle.refusal.specs.Pick.{pick}
 use Rattle.refusal.specs.Answers.{Answer, good, refused}
 use Rattle.refusal.specs.Numbers.{unknown-identifier, bad-record}
 use Rattle.dictionary.specs.declared.Kind.{Kind}
 use Rattle.dictionary.specs.declared.Kind.the-variants.{Numeric, Alphabetic, Alphanumeric}
-use Rattle.dictionary.specs.declared.Limit.{Limit}
-use Rattle.dictionary.specs.declared.Limit.the-variants.{UpTo, NoLimit}
+use Rattle.dictionary.specs.declared.Greatest.{Greatest}
+use Rattle.dictionary.specs.declared.Greatest.the-variants.{UpTo, NoLimit}
 use Rattle.dictionary.specs.declared.Row.{Row}
 use Rattle.dictionary.specs.declared.Found.{Found}
 use Rattle.dictionary.specs.declared.Found.the-variants.{At, Unknown}
@@ -33,16 +34,16 @@ rowFoundSays (Is r) i = good r
 rowFoundSays NoRow i = refused bad-record i
 
 -- the table's number for a greatest length, 255 being none, and for a type
-abbrev pub limitOf : ℕ → Limit
-limitOf x = pick (eqb x 255) NoLimit (UpTo x)
+abbrev pub greatestOf : ℕ → Greatest
+greatestOf x = pick (eqb x 255) NoLimit (UpTo x)
 
 abbrev pub kindOf : ℕ → Kind
 kindOf x = pick (eqb x 0) Numeric (pick (eqb x 1) Alphabetic Alphanumeric)
 
 -- back to the table's numbers
-abbrev limitCode : Limit → ℕ
-limitCode (UpTo n) = n
-limitCode NoLimit = 255
+abbrev greatestCode : Greatest → ℕ
+greatestCode (UpTo n) = n
+greatestCode NoLimit = 255
 
 abbrev kindCode : Kind → ℕ
 kindCode Numeric = 0
@@ -52,7 +53,7 @@ kindCode Alphanumeric = 2
 -- rows as one list of numbers, five a row
 unfoldable pub flat : Dictionary → List ℕ
 flat [] = []
-flat (r ∷ d) = r .first ∷ r .second ∷ r .least ∷ limitCode (r .greatest) ∷ kindCode (r .kind) ∷ flat d
+flat (r ∷ d) = r .first ∷ r .second ∷ r .least ∷ greatestCode (r .greatest) ∷ kindCode (r .kind) ∷ flat d
 
 -- the code's table, which is lent to who looks for a row: the numbers of all rows
 unfoldable pub rowTable : List ℕ
@@ -72,3 +73,8 @@ digitOf b = pick (ltb b 48) 36 (pick (ltb b 65) (b - 48) (b - 55))
 
 abbrev pub placeOf : (a b : ℕ) → ℕ
 placeOf a b = (baseOf a + digitOf b) - 1
+
+-- no identifier holds a separator
+unfoldable pub plain : Dictionary → Bool
+plain [] = true
+plain (r ∷ d) = (leb 32 (r .first) && leb 32 (r .second)) && plain d

@@ -1,4 +1,4 @@
--- Conformity record by record: what is kept of the fields so far, and what is answered from it at the end.
+-- Conformity record by record: what is kept of the fields so far, and what is conformityOf from it at the end.
 use Prim.Native.Nat.{ℕ, zero, suc}
 use mathlib.Core.Bool.{Bool, true, false, not, _||_}
 use mathlib.Core.List.{List, [], _∷_}
@@ -6,14 +6,20 @@ use lib.Dec.{ltb, eqb}
 use lib.ListN.{getD, set}
 use Rattle.refusal.specs.Pick.{pick}
 use Rattle.refusal.specs.Answers.{Answer, good, refused, _>>_, check}
-use Rattle.refusal.specs.Numbers.{type-not-covered, identifier-missing, identifier-not-permitted, refusal}
+use Rattle.refusal.specs.Numbers.{type-not-covered, identifier-missing, identifier-not-permitted}
 use Rattle.dictionary.specs.declared.Field.{Field}
 use Rattle.dictionary.specs.Rows.{rowCount}
 use Rattle.conformity.specs.declared.Conformity.{Conformity}
-use Rattle.conformity.specs.declared.Conformity.the-variants.{Conforms, Refused}
 use Rattle.conformity.specs.declared.Seen.{Seen}
-use Rattle.conformity.specs.Tables.{Mark, O, F, no, Exchange}
-use Rattle.conformity.specs.Conformity.{columnOf, tableAt, markOf, replaced}
+use Rattle.conformity.specs.Tables.{Mark, O, F, no, Exchange, Table, tables}
+use Rattle.conformity.specs.Conformity.{conformityOf, columnOf, markOf, replaced}
+
+-- the table of a column; one that permits nothing for what is no column
+abbrev pub none : Table
+none = record { lines = []; column = 0; optional = []; exchanges = [] }
+
+unfoldable pub tableAt : ℕ → Table
+tableAt k = getD tables k none
 
 -- the code's number of a mark
 abbrev pub markCode : Mark → ℕ
@@ -28,11 +34,6 @@ codeOf k n = markCode (markOf (tableAt k) n)
 unfoldable pub marksOf : (column left n : ℕ) → List ℕ
 marksOf k zero n = []
 marksOf k (suc left) n = codeOf k n ∷ marksOf k left (suc n)
-
--- the answer as the code gives it
-abbrev pub answered : Answer (Unit {0}) → Conformity
-answered (good x) = Conforms
-answered (refused k p) = Refused (refusal k p)
 
 -- a state by its parts
 abbrev pub seen : (column : ℕ) → (rows : List ℕ) → (wrong : Bool) → (place : ℕ) → Seen
@@ -87,7 +88,7 @@ noneMissing xs rows (suc left) n = do
   noneMissing xs rows left (suc n)
 
 unfoldable pub decided : Seen → Conformity
-decided s = answered do
+decided s = conformityOf do
   check (ltb (s .column) 5) type-not-covered 0
   noneMissing (tableAt (s .column) .exchanges) (s .rows) rowCount 0
   check (not (s .wrong)) identifier-not-permitted (s .place)

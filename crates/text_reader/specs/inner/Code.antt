@@ -12,13 +12,16 @@ use Rattle.refusal.specs.Limits.{most-fields}
 use Rattle.refusal.specs.Among.{among}
 use Rattle.dictionary.specs.Dictionary.{rowsOf}
 use Rattle.dictionary.specs.Rows.{rows, rowCount}
-use Rattle.dictionary.specs.Lookup.{soFar}
+use Rattle.dictionary.specs.inner.Lookup.{soFar}
 use Rattle.dictionary.specs.declared.Row.{Row}
 use Rattle.dictionary.specs.declared.Field.{Field}
 use Rattle.text.specs.Zone.{Piece, readData, zone}
 use Rattle.header.specs.Header.{Headed, size}
 use Rattle.text.specs.Signature.{readSignature}
-use Rattle.text.specs.Text.{Reading}
+use Rattle.text.specs.Text.{Received}
+use Rattle.text_reader.specs.Answers.{fieldsOf}
+use Rattle.text_reader.specs.declared.Outcome.the-variants.{Accepted, Refused as NotRead}
+use Rattle.text_reader.specs.declared.ZoneRead.{ZoneRead}
 use Rattle.text_reader.specs.declared.DataRead.{DataRead}
 use Rattle.text_reader.specs.declared.DataRead.the-variants.{Data, Refused}
 use Rattle.text_reader.specs.declared.Step.{Step}
@@ -81,8 +84,13 @@ FieldFits (One f next) p end count = (p < next) × (next ≤ end) × (f .row < r
 FieldFits (NoField w) p end count = Unit {0}
 
 -- what is left of reading a text behind its header x: the characters of the zone, and those behind the mark
-abbrev pub marked : Headed → (before behind : List ℕ) → Answer Reading
+abbrev pub marked : Headed → (before behind : List ℕ) → Answer Received
 marked x before behind = do
   fields ← zone rows most-fields [] (size (x .version)) before
   signature ← readSignature (x .version) (suc (size (x .version) + length before)) behind
   good (record { message = record { header = x .header; fields = fields; signature = signature }; signed = size (x .version) + length before })
+
+-- a refused zone has no field
+abbrev pub zoneAnswer : Answer (List Field) → ZoneRead
+zoneAnswer (good l) = record { outcome = Accepted; fields = fieldsOf l }
+zoneAnswer (refused k p) = record { outcome = NotRead (refusal k p); fields = fieldsOf [] }
