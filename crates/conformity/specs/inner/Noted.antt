@@ -1,4 +1,4 @@
--- Conformity record by record: what is kept of the fields so far, and what is conformityOf from it at the end.
+-- Conformity record by record: what is kept of the fields so far, and what is answered from it at the end.
 use Prim.Native.Nat.{ℕ, zero, suc}
 use mathlib.Core.Bool.{Bool, true, false, not, _||_}
 use mathlib.Core.List.{List, [], _∷_}
