@@ -1,4 +1,7 @@
 // Base32 of RFC 4648 without padding: characters to bytes and back, in groups of eight characters and five bytes.
+
+#![tactic(auto)]
+
 ghost use Rattle.std.specs.Prelude.{◌≡◌, ◌+◌, ◌*◌, ◌/◌, ◌≤◌, ◌<◌, length, get_or, take, replicate};
 ghost use Rattle.refusal.specs.Over.{over};
 ghost use Rattle.base32.specs.Base32.{in_alphabet, value_of, char_of, decoded, encoded};

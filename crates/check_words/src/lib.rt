@@ -1,4 +1,7 @@
 // The whole codeword list of a symbol with a single block: the data and behind them their check words (document 02, K3).
+
+#![tactic(auto)]
+
 ghost use Rattle.std.specs.Prelude.{◌≡◌, true, ◌++◌, ℕ, ◌+◌, ◌-◌, ◌≤◌, ◌<◌, length, get_or, take, drop, replicate};
 ghost use Rattle.codeword.specs.Sizes.{is_capacity};
 ghost use Rattle.refusal.specs.Numbers.{refusal};

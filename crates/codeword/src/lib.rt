@@ -1,4 +1,7 @@
 // The data codewords of a symbol: what each means in its mode, and the sizes that a symbol has.
+
+#![tactic(auto)]
+
 ghost use Rattle.std.specs.Prelude.{◌≡◌, ◌<◌, ◌≤◌, length};
 ghost use Rattle.codeword.specs.Meanings.{ascii, lone, pair, value, unfinished};
 ghost use Rattle.codeword.specs.Sizes.{is_capacity, capacities, most_codewords};
@@ -48,6 +51,7 @@ pub enum Pair {
     Outside,
 }
 
+#[tactic(auto, unfolding(crate::specs::Meanings::ascii))]
 pub fn ascii_of(w: u8) -> Ascii
     ensures { result ≡ ascii w }
 {
@@ -61,6 +65,7 @@ pub fn ascii_of(w: u8) -> Ascii
     }
 }
 
+#[tactic(auto, unfolding(crate::specs::Meanings::lone))]
 pub fn lone_of(w: u8) -> Lone
     ensures { result ≡ lone w }
 {
@@ -71,6 +76,7 @@ pub fn lone_of(w: u8) -> Lone
     }
 }
 
+#[tactic(auto, unfolding(crate::specs::Meanings::pair))]
 pub fn pair_of(a: u8, b: u8) -> Pair
     ensures { result ≡ pair a b }
 {
@@ -85,6 +91,7 @@ pub fn pair_of(a: u8, b: u8) -> Pair
     Pair::Three((v / 1600) as u8, (v / 40 % 40) as u8, (v % 40) as u8)
 }
 
+#[tactic(auto, unfolding(crate::specs::Meanings::value))]
 fn basic_value(v: u8) -> Value
     ensures { result ≡ value Set.Basic v }
 {
@@ -99,6 +106,7 @@ fn basic_value(v: u8) -> Value
     }
 }
 
+#[tactic(auto, unfolding(crate::specs::Meanings::value))]
 fn set1_value(v: u8) -> Value
     ensures { result ≡ value Set.Set1 v }
 {
@@ -108,6 +116,7 @@ fn set1_value(v: u8) -> Value
     }
 }
 
+#[tactic(auto, unfolding(crate::specs::Meanings::value))]
 fn set2_value(v: u8) -> Value
     ensures { result ≡ value Set.Set2 v }
 {
@@ -119,6 +128,7 @@ fn set2_value(v: u8) -> Value
     }
 }
 
+#[tactic(auto, unfolding(crate::specs::Meanings::value))]
 fn set3_value(v: u8) -> Value
     ensures { result ≡ value Set.Set3 v }
 {
@@ -140,6 +150,7 @@ pub fn value_of(set: Set, v: u8) -> Value
 }
 
 // Whether a shift that has nothing after it is refused: a shift 1 is filler and vanishes.
+#[tactic(auto, unfolding(crate::specs::Meanings::unfinished))]
 pub fn is_unfinished(set: Set) -> bool
     ensures { result ≡ unfinished set }
 {
@@ -157,6 +168,7 @@ const CAPACITIES: [usize; 24] = [
     1050, 1304, 1558,
 ];
 
+#[tactic(auto, unfolding(crate::specs::Sizes::capacities))]
 pub fn is_capacity(n: usize) -> bool
     ensures { result ≡ is_capacity n }
 {
@@ -172,6 +184,7 @@ pub fn is_capacity(n: usize) -> bool
 }
 
 // All of them, from the smallest. Who asks has a copy, and looks into it in a loop.
+#[tactic(auto, unfolding(crate::specs::Sizes::capacities))]
 pub fn all_capacities() -> [usize; 24]
     ensures { result ≡ capacities }
 {
@@ -186,6 +199,7 @@ pub struct Place {
 }
 
 // By the ranges of document 01, set by set.
+#[tactic(auto, unfolding(crate::specs::Characters::set_of, crate::specs::Characters::number_of))]
 pub fn place_of(c: u8) -> Place
     requires { c < 128 }
     ensures { (result.set ≡ set_of c) × (result.number ≡ number_of c) }
@@ -227,6 +241,7 @@ pub fn place_of(c: u8) -> Place
 }
 
 // Whether a character takes one value: the space, a digit or a capital letter. The writer asks at every character, so the tests go up from the lowest.
+#[tactic(auto, unfolding(crate::specs::Characters::set_of))]
 pub fn is_basic(c: u8) -> bool
     ensures { result ≡ is_basic (set_of c) }
 {
@@ -249,6 +264,7 @@ pub fn is_basic(c: u8) -> bool
 }
 
 // Padding starts with 129. A later pad at place p (the first codeword is place 1) is 129 + ((149p mod 253) + 1), less 254 if above 254.
+#[tactic(auto, unfolding(crate::specs::Pads::pad_at))]
 pub fn pad_at(first: usize, i: usize) -> u8
     requires { i < most_codewords }
     ensures { result ≡ pad_at first i }
@@ -264,6 +280,7 @@ pub fn pad_at(first: usize, i: usize) -> u8
 }
 
 // The index of the first wrong pad, where `used` codewords stand before the first; behind the last codeword if none is wrong.
+#[tactic(auto, unfolding(crate::specs::Pads::first_wrong))]
 pub fn first_wrong_pad(codewords: &[u8], used: usize) -> usize
     requires { length codewords.now ≤ most_codewords }
     ensures { result ≡ first_wrong used codewords.now }

@@ -1,5 +1,8 @@
 // Conformity: which identifiers a type of document must have, may have and must not have (source document 001, sections 8.1 and 8.7).
 // A list is gone through record by record over a small state, so that a list of any length can be looked at.
+
+#![tactic(auto)]
+
 mod table;
 
 ghost use Rattle.std.specs.Prelude.{◌≡◌, [], ◌∷◌, ◌<◌, take};

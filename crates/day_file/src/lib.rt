@@ -1,4 +1,7 @@
 // The day file: records one behind the other, then a trailer that points back. It stands in a lent slice, with its length beside it.
+
+#![tactic(auto)]
+
 ghost use Rattle.std.specs.Prelude.{◌≡◌, ◌+◌, ◌*◌, ◌≤◌, ◌<◌, length, take, drop};
 ghost use Rattle.day_file.specs.File.{most_bytes, four, record_of, body, bytes_of};
 ghost use Rattle.day_file.specs.Opening.{two_at, four_at, standing, records, opened, scans};

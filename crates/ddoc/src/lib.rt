@@ -1,4 +1,7 @@
 // The C interface (include/ddoc.h): every exported function, with its answer as numbers.
+
+#![tactic(auto)]
+
 ghost use Rattle.std.specs.Prelude.{◌≡◌, length};
 ghost use Rattle.codeword.specs.Reading.{read_symbol};
 ghost use Rattle.symbol_reader.specs.Answers.{lent_after};

@@ -1,4 +1,7 @@
 // The dictionary of 2D-DOC: its rows, the characters that a row takes, and the records that name a row.
+
+#![tactic(auto)]
+
 mod table;
 
 ghost use Rattle.std.specs.Prelude.{◌≡◌, ℕ, ◌+◌, ◌<◌, ◌≤◌, min, length, get_or};

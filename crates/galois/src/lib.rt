@@ -1,5 +1,8 @@
 // The field of 256 elements with polynomial 301 (document 02, K3): products by tables of powers and logarithms, which are lent to every
 // function and tied to the definition by proof.
+
+#![tactic(auto)]
+
 mod tables;
 
 ghost use Rattle.std.specs.Prelude.{◌≡◌, true, ◌<◌, length, get_or, replicate};

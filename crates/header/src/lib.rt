@@ -1,4 +1,7 @@
 // The header of a 2D-DOC text, read and written: its version, its parts, and the days as numbers.
+
+#![tactic(auto)]
+
 ghost use Rattle.std.specs.Prelude.{true, false, ◌≡◌, ℕ, ◌+◌, ◌≤◌, ◌<◌, length, get_or, take};
 ghost use Rattle.refusal.specs.Over.{over};
 ghost use Rattle.refusal.specs.Chars.{chars_at};

@@ -1,4 +1,7 @@
 // The lines that the program `week` prints, composed in a lent slice: the counts above zero, and a refused file.
+
+#![tactic(auto)]
+
 ghost use Rattle.std.specs.Prelude.{◌≡◌, [], ◌∷◌, ◌+◌, ◌≤◌, ◌<◌, length};
 ghost use Rattle.refusal.specs.Over.{over};
 ghost use Rattle.day_file.specs.Pieces.{put_at};

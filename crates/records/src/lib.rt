@@ -1,5 +1,8 @@
 // The fields of a message in a list that the caller lends: stored into it, looked at in it, taken out of it.
 // Each function here is thin: what is done with a record is a function by value.
+
+#![tactic(auto)]
+
 ghost use Rattle.std.specs.Prelude.{◌≡◌, ◌<◌, ◌≤◌, length, get_or};
 ghost use Rattle.refusal.specs.Limits.{most_fields};
 ghost use Rattle.dictionary.specs.Dictionary.{no_field};

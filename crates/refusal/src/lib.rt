@@ -1,4 +1,7 @@
 // What every layer refuses with: a number of document 01's table, by name, and a place in the input. And the limits.
+
+#![tactic(auto)]
+
 ghost use Rattle.std.specs.Prelude.{◌≡◌, ◌++◌, ◌≤◌, length, take, drop};
 ghost use Rattle.refusal.specs.Numbers.{refusal};
 

@@ -1,5 +1,8 @@
 // Runs the samples of document 01, and the published examples that stand in the file stdin, and prints what comes out; the file stdout has what must
 // come out.
+
+#![tactic(auto)]
+
 ghost use Rattle.std.specs.Prelude.{◌≡◌, ◌<◌, ◌≤◌, length};
 ghost use Rattle.refusal.specs.Limits.{most_fields};
 

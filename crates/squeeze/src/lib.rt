@@ -1,4 +1,7 @@
 // Taking back the room of withdrawn scans: live records in their old order, the trailer rebuilt.
+
+#![tactic(auto)]
+
 ghost use Rattle.std.specs.Prelude.{◌≡◌, ◌+◌, ◌-◌, ◌*◌, ◌≤◌, ◌<◌, eqb, length, get_or, set, take, drop, replicate};
 ghost use Rattle.std.proofs.Math.Seq.{paste};
 ghost use Rattle.refusal.specs.Pick.{pick};

@@ -1,4 +1,7 @@
 // Reads the data codewords of a symbol into text. The ASCII-mode and the C40-mode reader hand the rest of the codewords to each other.
+
+#![tactic(auto)]
+
 ghost use Rattle.std.specs.Prelude.{◌≡◌, ◌+◌, ◌-◌, ◌≤◌, ◌<◌, length};
 ghost use Rattle.refusal.specs.Limits.{limit};
 ghost use Rattle.codeword.specs.Sizes.{most_codewords};

@@ -1,5 +1,8 @@
 // From text to codewords: the smallest symbol of a text, with the fewest codewords before its pads and, among those, the largest.
 // The costs are filled from the end of the text, the size is chosen by them, and the codewords are written from the beginning.
+
+#![tactic(auto)]
+
 mod codewords;
 mod costs;
 mod moves;

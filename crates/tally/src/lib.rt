@@ -1,4 +1,7 @@
 // The week in figures: the live texts of a day file, read again and counted by type and by refusal.
+
+#![tactic(auto)]
+
 ghost use Rattle.std.specs.Prelude.{◌≡◌, ◌+◌, ◌≤◌, ◌<◌, length, drop, get_or};
 ghost use Rattle.refusal.specs.Limits.{most_fields};
 ghost use Rattle.dictionary.specs.Rows.{rows};

@@ -1,4 +1,7 @@
 // The text behind its header: the mark 31 behind the zone, and the signature. What a zone and a text are is defined here too.
+
+#![tactic(auto)]
+
 ghost use Rattle.std.specs.Prelude.{◌≡◌, ◌+◌, ◌≤◌, length, drop};
 ghost use Rattle.refusal.specs.Answers.{refused};
 ghost use Rattle.refusal.specs.Limits.{limit};

@@ -1,5 +1,8 @@
 // Received a text: the zone field by field over the dictionary's rows, and then the whole, header, zone and signature. The signed
 // part is given back as a part of the caller's text.
+
+#![tactic(auto)]
+
 ghost use Rattle.std.specs.Prelude.{◌≡◌, List, [], suc, ◌+◌, ◌-◌, ◌≤◌, ◌<◌, length, drop};
 ghost use Rattle.std.proofs.Math.Seq.{slice};
 ghost use Rattle.dictionary.specs.Dictionary.{no_field};

@@ -1,5 +1,8 @@
 // Writes a message as a text. A first pass finds what is to be refused and how long the text is, and writes nothing; a second
 // pass writes. So a refusal leaves the output as it was.
+
+#![tactic(auto)]
+
 ghost use Rattle.std.specs.Prelude.{◌&&◌, ◌≡◌, List, [], ℕ, ◌+◌, ◌*◌, ◌<◌, ◌≤◌, length, get_or, take};
 ghost use Rattle.refusal.specs.Limits.{most_fields};
 ghost use Rattle.refusal.specs.Over.{over};

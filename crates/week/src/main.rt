@@ -1,5 +1,8 @@
 // The week in figures: day files from standard input, each behind two bytes with its length, high byte first, counted; a line for each refused
 // file when it is met, then a line for each count above zero, then "input cut" where the input stops inside a file or its length.
+
+#![tactic(auto)]
+
 ghost use Rattle.std.specs.Prelude.{◌≡◌, ◌≤◌, length};
 
 use day_file::MOST_BYTES;
