@@ -22,7 +22,7 @@ const MOST_DATA: usize = 174;
 const MOST_CHECKS: usize = 68;
 
 // The words of the list, data and check words; or the refusal.
-#[derive(Drop)]
+#[derive(Clone, Copy)]
 pub enum Listing {
     Words(usize),
     Refused(Refusal),
@@ -44,6 +44,7 @@ pub fn place_of(t: &[usize], n: usize) -> usize
 }
 
 // The check words of the size with n data codewords.
+#[tactic(auto, unfolding(crate::specs::Sizes::check_count, crate::specs::Sizes::check_counts))]
 fn check_count(n: usize) -> usize
     requires { (is_capacity n ≡ true) × (n ≤ most_data) }
     ensures { result ≡ check_count n }

@@ -10,7 +10,7 @@ ghost use Rattle.codeword.specs.Numbered.{is_basic};
 ghost use Rattle.codeword.specs.Pads.{pad_at, first_wrong};
 
 // The four sets of C40. Sets 1, 2 and 3 are also the shifts that wait for their value.
-#[derive(Drop)]
+#[derive(Clone, Copy)]
 pub enum Set {
     Basic,
     Set1,
@@ -19,7 +19,7 @@ pub enum Set {
 }
 
 // What a value of C40 means in its set.
-#[derive(Drop)]
+#[derive(Clone, Copy)]
 pub enum Value {
     Char(u8),
     Shift(Set),
@@ -27,7 +27,7 @@ pub enum Value {
 }
 
 // What a codeword means in ASCII mode.
-#[derive(Drop)]
+#[derive(Clone, Copy)]
 pub enum Ascii {
     One(u8),
     Two(u8, u8),
@@ -37,7 +37,7 @@ pub enum Ascii {
 }
 
 // What a lone last codeword means in C40 mode.
-#[derive(Drop)]
+#[derive(Clone, Copy)]
 pub enum Lone {
     Ends,
     Last(u8),
@@ -45,7 +45,7 @@ pub enum Lone {
 }
 
 // A pair of codewords in C40 mode yields three values or a refusal.
-#[derive(Drop)]
+#[derive(Clone, Copy)]
 pub enum Pair {
     Three(u8, u8, u8),
     Outside,
@@ -192,7 +192,7 @@ pub fn all_capacities() -> [usize; 24]
 }
 
 // Where a character stands in C40.
-#[derive(Drop)]
+#[derive(Clone, Copy)]
 pub struct Place {
     pub set: Set,
     pub number: u8,

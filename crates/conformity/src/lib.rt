@@ -14,14 +14,14 @@ ghost use Rattle.conformity.specs.inner.Noted.{marks_of, begun, wrong_at, noted,
 use dictionary::{Field, Fields, ROW_COUNT};
 use refusal::Refusal;
 
-#[derive(Drop)]
+#[derive(Clone, Copy)]
 pub enum Conformity {
     Conforms,
     Refused(Refusal),
 }
 
 // What is kept of the fields so far: the column of their type, of each row its mark, and the place of the first field that is not permitted.
-#[derive(Drop)]
+#[derive(Clone, Copy)]
 pub struct Seen {
     pub column: usize,
     pub rows: [u8; ROW_COUNT],
@@ -37,6 +37,7 @@ const MISSING: u8 = 2;
 const THERE: u8 = 3;
 
 // The types covered, numbered: 00, 01, 02, B0, B1; 5 for any other.
+#[tactic(auto, unfolding(crate::specs::Conformity::column_of))]
 pub fn column_of(a: u8, b: u8) -> usize
     ensures { result ≡ column_of a b }
 {
@@ -71,6 +72,7 @@ fn wide(x: u16) -> usize
 }
 
 // The marks of the rows in a column. What is no column permits none.
+#[tactic(auto, unfolding(crate::specs::inner::Noted::marks_of, crate::specs::inner::Noted::table_at, crate::specs::Conformity::mark_of, crate::specs::Tables::domicile, crate::specs::Tables::academic, crate::specs::Tables::row_of, dictionary::specs::Dictionary::find, dictionary::specs::Rows::rows))]
 fn marks_of(column: usize) -> [u8; ROW_COUNT]
     ensures { result ≡ marks_of column row_count 0 }
 {
@@ -183,6 +185,7 @@ fn is_replaced(column: usize, rows: &[u8; ROW_COUNT], n: usize) -> bool
 }
 
 // The least mandatory row that is missing and that nothing stands for, or the count of rows.
+#[tactic(auto, unfolding(crate::specs::inner::Noted::none_missing))]
 fn first_missing(column: usize, rows: &[u8; ROW_COUNT]) -> usize
     requires { column < 5 }
     ensures { missing_says result ≡ none_missing (table_at column).exchanges rows.now row_count 0 }

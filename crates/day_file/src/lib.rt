@@ -15,27 +15,27 @@ ghost use Rattle.refusal.specs.Over.{over};
 pub const MOST_BYTES: usize = 32768;
 
 // A file that is good, with its record count and its trailer's start; or a refusal.
-#[derive(Drop)]
+#[derive(Clone, Copy)]
 pub enum Opened {
     Good(usize, usize),
     NotGood(refusal::Refusal),
 }
 
 // The number of the record that was added, and the file's new length; or a refusal.
-#[derive(Drop)]
+#[derive(Clone, Copy)]
 pub enum Added {
     Done(usize, usize),
     NotAdded(refusal::Refusal),
 }
 
-#[derive(Drop)]
+#[derive(Clone, Copy)]
 pub enum Withdrawn {
     Gone,
     NotGone(refusal::Refusal),
 }
 
 // Where a text starts in the file, and its length; or a refusal.
-#[derive(Drop)]
+#[derive(Clone, Copy)]
 pub enum Placed {
     At(usize, usize),
     Nowhere(refusal::Refusal),

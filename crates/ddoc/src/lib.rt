@@ -36,7 +36,7 @@ use text_writer::TextWritten;
 
 // Accepted: number 0 and place 0. Refused: length and used 0.
 #[repr(C)]
-#[derive(Drop)]
+#[derive(Clone, Copy)]
 pub struct Answer {
     pub number: usize,
     pub place: usize,

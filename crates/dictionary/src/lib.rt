@@ -16,7 +16,7 @@ pub const ROW_COUNT: usize = 110;
 
 pub const TABLE_SIZE: usize = 550;
 
-#[derive(Drop)]
+#[derive(Clone, Copy)]
 pub enum Kind {
     Numeric,
     Alphabetic,
@@ -24,13 +24,13 @@ pub enum Kind {
 }
 
 // The greatest length of a row's data, or none.
-#[derive(Drop)]
+#[derive(Clone, Copy)]
 pub enum Greatest {
     UpTo(usize),
     NoLimit,
 }
 
-#[derive(Drop)]
+#[derive(Clone, Copy)]
 pub struct Row {
     pub first: u8,
     pub second: u8,
@@ -41,7 +41,7 @@ pub struct Row {
 
 // A field: its row, whether its data are cut, and where they stand in a slice.
 #[repr(C)]
-#[derive(Drop)]
+#[derive(Clone, Copy)]
 pub struct Field {
     pub row: u16,
     pub cut: bool,
@@ -57,14 +57,14 @@ pub struct Fields {
 }
 
 // The row of an identifier, with its number.
-#[derive(Drop)]
+#[derive(Clone, Copy)]
 pub enum Found {
     At(usize, Row),
     Unknown,
 }
 
 // The row of a number.
-#[derive(Drop)]
+#[derive(Clone, Copy)]
 pub enum RowFound {
     Is(Row),
     NoRow,
@@ -123,6 +123,7 @@ pub fn is_fixed(r: Row) -> bool
 }
 
 // May c stand behind the n characters of data that start at `start`? The type decides, whatever the data so far.
+#[tactic(auto, unfolding(crate::specs::Dictionary::allowed))]
 pub fn may_stand(r: Row, text: &[u8], start: usize, n: usize, c: u8) -> bool
     requires { start + n ≤ length text.now }
     ensures { result ≡ allowed r (so_far text.now start n) c }
@@ -161,6 +162,7 @@ fn kind_of(x: u8) -> Kind
 }
 
 // The table of the rows, five numbers a row. Who asks has a copy, and lends it from before a loop.
+#[tactic(auto, unfolding(crate::specs::inner::Lookup::row_table, crate::specs::inner::Lookup::flat, crate::specs::Rows::rows))]
 pub fn all_rows() -> [u8; TABLE_SIZE]
     ensures { result ≡ row_table }
 {
@@ -185,6 +187,7 @@ fn row_of(table: &[u8; TABLE_SIZE], n: usize) -> Row
 }
 
 // One more than the number of the row with the identifier a0, for a first character that has rows.
+#[tactic(auto, unfolding(crate::specs::inner::Lookup::base_of))]
 fn base_of(a: u8) -> u8
     ensures { result ≡ base_of a }
 {
@@ -207,6 +210,7 @@ fn base_of(a: u8) -> u8
 }
 
 // The digits 0 to 9 and then the letters A to Z, from 0. What is neither gives a number too, which is then found to be no such row's.
+#[tactic(auto, unfolding(crate::specs::inner::Lookup::digit_of))]
 fn digit_of(b: u8) -> u8
     ensures { result ≡ digit_of b }
 {

@@ -10,12 +10,14 @@ ghost use Rattle.galois.specs.Field.{◌⊗◌};
 ghost use Rattle.galois.specs.Tables.{powers, logs, is_log, element_of};
 
 // Who works with them takes a copy of each before its first loop.
+#[tactic(auto, unfolding(crate::specs::Tables::powers, crate::specs::Tables::turns))]
 pub fn all_powers() -> [u8; 1021]
     ensures { result ≡ powers }
 {
     tables::POWERS
 }
 
+#[tactic(auto, unfolding(crate::specs::Tables::logs))]
 pub fn all_logs() -> [u16; 256]
     ensures { result ≡ logs }
 {

@@ -12,7 +12,7 @@ ghost use Rattle.refusal.specs.Classes.{upper};
 
 // The parts of a header, the days of issue and of signing as numbers; a part that the version lacks is two zeros after reading.
 #[repr(C)]
-#[derive(Drop)]
+#[derive(Clone, Copy)]
 pub struct Header {
     pub version: [u8; 2],
     pub authority: [u8; 4],
@@ -25,21 +25,21 @@ pub struct Header {
 }
 
 // The versions of the header.
-#[derive(Drop)]
+#[derive(Clone, Copy)]
 pub enum Version {
     V02,
     V03,
     V04,
 }
 
-#[derive(Drop)]
+#[derive(Clone, Copy)]
 pub enum VersionRead {
     Known(Version),
     Unknown,
 }
 
 // A header that was read, with its version; or, where the refusal's number is not 0, zeros and the version 02.
-#[derive(Drop)]
+#[derive(Clone, Copy)]
 pub struct HeaderRead {
     pub refusal: refusal::Refusal,
     pub version: Version,

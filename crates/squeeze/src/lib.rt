@@ -14,7 +14,7 @@ ghost use Rattle.squeeze.specs.inner.Code.{scans_in, Opens};
 ghost use Rattle.squeeze.specs.Answers.{squeezed_answer};
 
 // The number of live records, and the file's new length; or a refusal.
-#[derive(Drop)]
+#[derive(Clone, Copy)]
 pub enum Squeezed {
     Done(usize, usize),
     NotDone(refusal::Refusal),

@@ -15,21 +15,21 @@ use codeword::{Ascii, Lone, Pair, Set, Value};
 use refusal::Refusal;
 
 // The count of characters and of codewords before the first pad, or a refusal.
-#[derive(Drop)]
+#[derive(Clone, Copy)]
 pub enum SymbolRead {
     Text(usize, usize),
     Refused(Refusal),
 }
 
 // The count of characters so far and the shift that waits, or the number of a refusal.
-#[derive(Drop)]
+#[derive(Clone, Copy)]
 pub enum Put {
     On(usize, Set),
     Bad(u8),
 }
 
 // What comes behind a codeword or a pair: the mode that reads on, with the count of characters and the shift that waits; or the answer.
-#[derive(Drop)]
+#[derive(Clone, Copy)]
 pub enum Next {
     Ascii(usize),
     C40(usize, Set),

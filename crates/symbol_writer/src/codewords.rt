@@ -10,7 +10,7 @@ ghost use Rattle.symbol_writer.specs.Codewords.{RoomFor, after_move, put_move, P
 use super::moves::{Mode, Move, next_move};
 
 // The mode, the place of the text and the number of codewords behind a move.
-#[derive(Drop)]
+#[derive(Clone, Copy)]
 pub enum After {
     At(Mode, usize, usize),
     Stopped,

@@ -11,7 +11,7 @@ ghost use Rattle.symbol_writer.specs.Rows.{costs_of, k_of, Low, put_at, work_roo
 const NEVER: u16 = 8192;
 
 // The least even and the least odd number of codewords.
-#[derive(Drop)]
+#[derive(Clone, Copy)]
 pub struct Least {
     pub even: u16,
     pub odd: u16,

@@ -30,7 +30,7 @@ use sizes::{Size, choose_size};
 const WORK_ROOM: usize = 8192;
 
 // The capacity, and the codewords before padding.
-#[derive(Drop)]
+#[derive(Clone, Copy)]
 pub enum SymbolWritten {
     Written(usize, usize),
     Refused(Refusal),

@@ -11,21 +11,21 @@ ghost use Rattle.symbol_writer.specs.Moves.{mode_of, basic_value, column_behind,
 use super::costs::{IN_ASCII, NO_VALUE, ONE_VALUE, fits, is_digit};
 use codeword::{Place, Set};
 
-#[derive(Drop)]
+#[derive(Clone, Copy)]
 pub enum Mode {
     Ascii,
     C40(Set),
 }
 
 // The next value of a pair, the set that it leaves, and the place of the text behind it.
-#[derive(Drop)]
+#[derive(Clone, Copy)]
 pub enum NextValue {
     Value(u8, Set, usize),
     Ended,
 }
 
 // A codeword or two, the mode that they leave, and the place of the text behind them.
-#[derive(Drop)]
+#[derive(Clone, Copy)]
 pub enum Move {
     One(u8, Mode, usize),
     Two(u8, u8, Mode, usize),

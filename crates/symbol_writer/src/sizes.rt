@@ -7,7 +7,7 @@ ghost use Rattle.symbol_writer.specs.Sizes.{IsSize};
 use super::costs::Least;
 
 // The capacity, the codewords before the pads, and whether there is a pad.
-#[derive(Drop)]
+#[derive(Clone, Copy)]
 pub enum Size {
     At(usize, usize, bool),
     NoneFits,

@@ -12,14 +12,14 @@ ghost use Rattle.text.specs.inner.Code.{zone_end_says, signature_answer};
 use header::Version;
 
 // The place of the mark 31.
-#[derive(Drop)]
+#[derive(Clone, Copy)]
 pub enum ZoneEnd {
     Found(usize),
     Missing,
 }
 
 // A signature that was read: the first `count` of the bytes, the others zero; or a refusal, and nothing but zeros.
-#[derive(Drop)]
+#[derive(Clone, Copy)]
 pub struct SignatureRead {
     pub refusal: refusal::Refusal,
     pub bytes: [u8; 132],
@@ -28,7 +28,7 @@ pub struct SignatureRead {
 
 // What a character does behind the data so far: it is one more of them; a 29 ends them; a 30 cuts them; they are whole, and
 // it starts the next field; it may not stand there.
-#[derive(Drop)]
+#[derive(Clone, Copy)]
 pub enum Does {
     More,
     Ends,

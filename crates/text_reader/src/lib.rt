@@ -44,21 +44,21 @@ pub struct TextRead {
 }
 
 // The data of a field: their length, whether they are cut, and the place behind them; or a refusal.
-#[derive(Drop)]
+#[derive(Clone, Copy)]
 pub enum DataRead {
     Data(usize, bool, usize),
     Refused(refusal::Refusal),
 }
 
 // A character of the data was read: they go on, or that was all.
-#[derive(Drop)]
+#[derive(Clone, Copy)]
 pub enum Step {
     On,
     Done(DataRead),
 }
 
 // One field: its record and the place behind it; or a refusal.
-#[derive(Drop)]
+#[derive(Clone, Copy)]
 pub enum FieldRead {
     One(dictionary::Field, usize),
     Refused(refusal::Refusal),

@@ -23,14 +23,14 @@ use header::{Header, Version};
 use refusal::Refusal;
 
 // The length of the text that was written.
-#[derive(Drop)]
+#[derive(Clone, Copy)]
 pub enum TextWritten {
     Written(usize),
     Refused(Refusal),
 }
 
 // The room that characters take, or why they may not be written.
-#[derive(Drop)]
+#[derive(Clone, Copy)]
 pub enum Room {
     Takes(usize),
     Refused(Refusal),

@@ -1,0 +1,13 @@
+-- `write_base32` meets its contract. The invariant: the characters of the groups passed stand at the front, and the others are those of the rest.
+use Prim.Native.Nat.{◌-◌, ◌*◌, ◌≤◌}
+use mathlib.Core.Path.{◌≡◌}
+use lib.ListN.{length}
+use Rattle.base32.specs.Base32.{encoded}
+use Rattle.base32.proofs.Groups.{Filled}
+use Rattle.base32.proofs.write_base32.Given as goal
+
+abbrev pub invariant-loop-p : goal.invariant-loop-p
+invariant-loop-p l = Filled encoded l.bytes l.initial.out l.p l.q l.out × (length l.out ≡ length l.initial.out) × (l.p ≤ length l.bytes) × (5 * l.q ≡ 8 * l.p)
+
+abbrev pub decreases-loop-p : goal.decreases-loop-p
+decreases-loop-p l = length l.bytes - l.p
