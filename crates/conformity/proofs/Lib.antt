@@ -1,5 +1,5 @@
 pub mod Marks
+pub mod Lengths
 pub mod Steps
 pub mod Listed
-pub mod Lengths
 pub mod One

@@ -9,7 +9,7 @@ use Rattle.check_words.specs.Generator.{grow}
 use Rattle.check_words.proofs.grow_by.Given as goal
 
 abbrev pub invariant-loop-i : goal.invariant-loop-i
-invariant-loop-i l = (l.i ≤ l.n) × (length l.g ≡ l.n) × (l.b ≡ get_or (1 ∷ l.initial.g) l.i 0) × (l.g ≡ take l.i (grow (element_of l.m) 1 l.initial.g) ++ drop l.i l.initial.g)
+invariant-loop-i l = (l.i ≤ l.n) × (length l.g ≡ l.n) × (l.before ≡ get_or (1 ∷ l.initial.g) l.i 0) × (l.g ≡ take l.i (grow (element_of l.m) 1 l.initial.g) ++ drop l.i l.initial.g)
 
 abbrev pub decreases-loop-i : goal.decreases-loop-i
 decreases-loop-i l = l.n - l.i

@@ -11,9 +11,9 @@ use Rattle.conformity.proofs.conforms.Goals as goal
 
 pub loop-i-preserved : goal.loop-i-preserved
 loop-i-preserved c =
-    let f = c.args.t3 in
+    let f = c.args.f in
     let few = c.held-end.ensures in
-    let long = counted f.count f.list (list_long f _ c.well-formed.1.1.0) in (
+    let long = counted f.count f.list (list_long f _ c.well_formed.1.1.0) in (
       search rules,
       next_noted _ _ _ _ no_field (take f.count f.list) (omega (arith, few, long))
           (sym (get_or-take f.count f.list c.loop-i.i no_field (omega (arith, few)))) c.note-s.ensures ∙ c.loop-i.invariant.1,
@@ -22,8 +22,8 @@ loop-i-preserved c =
 pub returns : goal.returns
 returns c =
     let a = c.args in
-    let l = take a.t3.count a.t3.list in
+    let l = take a.f.count a.f.list in
     let few = c.held-end.ensures in
-    let long = counted a.t3.count a.t3.list (list_long a.t3 _ c.well-formed.1.1.0) in
+    let long = counted a.f.count a.f.list (list_long a.f _ c.well_formed.1.1.0) in
     c.decide.ensures ∙
     (ap decided (sym (all_noted c.loop-i.s c.loop-i.i l (omega (arith, few, long))) ∙ c.loop-i.invariant.1) ∙ decided_right a.type0 a.type1 l)

@@ -7,6 +7,7 @@ use Rattle.conformity.specs.inner.Noted.{none_missing, table_at}
 use Rattle.conformity.proofs.Steps.{turn_ends, turn_replaced, turn_other}
 use borrow.Author.Rules.{rules}
 use Rattle.conformity.proofs.first_missing.Goals as goal
+use Rattle.conformity.proofs.first_missing.Goals.{then-rows-n-eq-MISSING+else-not-is_replaced, else-rows-n-eq-MISSING}
 
 pub returns-then-not-is_replaced : goal.returns-then-not-is_replaced
 returns-then-not-is_replaced c =
@@ -19,8 +20,11 @@ loop-n-preserved c =
     let a = c.args in
     let xs = (table_at a.column).exchanges in
     let small = c.loop-n-test.true in (
-      search rules,
-      ⊎_elim (λ z. turn_replaced xs a.rows.now l.n small z.0.taken _ z.1.ensures (not-false _ z.2.left)) (λ z. turn_other xs a.rows.now l.n small z.left) c.if-rows-n-eq-MISSING.branch ∙ l.invariant.1,
+      omega arith,
+      elim c.if-rows-n-eq-MISSING.branch [
+        then-rows-n-eq-MISSING+else-not-is_replaced w ↦ turn_replaced xs a.rows.now l.n small w.if-rows-n-eq-MISSING.true _ w.is_replaced.ensures w.if-not-is_replaced.false
+        | else-rows-n-eq-MISSING w ↦ turn_other xs a.rows.now l.n small w.if-rows-n-eq-MISSING.false
+      ] ∙ l.invariant.1,
     )
 
 pub returns : goal.returns
