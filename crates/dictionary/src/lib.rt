@@ -50,7 +50,7 @@ pub struct Field {
 }
 
 // The fields of a message: the first `count` of the list.
-#[derive(Drop)]
+#[derive(Clone, Copy)]
 pub struct Fields {
     pub list: [Field; refusal::MOST_FIELDS],
     pub count: usize,
