@@ -68,20 +68,20 @@ module _ (b : Bool) where
   pub latch_edge : (t : List ℕ) (q : Bool) → cost b t asc (not q) ≤ suc (cost b t d0 q)
   unfolding cost before base
   latch_edge [] true = omega arith
-  latch_edge [] false = elim b [ true ↦ omega arith | false ↦ omega arith ]
+  latch_edge [] false = elim b as (λ k. cost k [] asc true ≤ suc (cost k [] d0 false)) [ true ↦ omega arith | false ↦ omega arith ]
   latch_edge (c ∷ t) true = omega arith
   latch_edge (c ∷ t) false = omega arith
 
   pub unlatch_edge : (t : List ℕ) (q : Bool) → cost b t d0 (not q) ≤ suc (cost b t asc q)
   unfolding cost before base
-  unlatch_edge [] true = elim b [ true ↦ omega arith | false ↦ omega arith ]
+  unlatch_edge [] true = elim b as (λ k. cost k [] d0 false ≤ suc (cost k [] asc true)) [ true ↦ omega arith | false ↦ omega arith ]
   unlatch_edge [] false = omega arith
   unlatch_edge (c ∷ t) true = omega arith
   unlatch_edge (c ∷ t) false = omega arith
 
   pub filler_edge : (t : List ℕ) (q : Bool) → cost b t fil (not q) ≤ suc (cost b t asc q)
   unfolding cost before base
-  filler_edge [] true = elim b [ true ↦ omega arith | false ↦ omega arith ]
+  filler_edge [] true = elim b as (λ k. cost k [] fil false ≤ suc (cost k [] asc true)) [ true ↦ omega arith | false ↦ omega arith ]
   filler_edge [] false = omega arith
   filler_edge (c ∷ t) true = omega arith
   filler_edge (c ∷ t) false = omega arith
@@ -89,5 +89,5 @@ module _ (b : Bool) where
   pub third_edge : (t : List ℕ) (q : Bool) → cost b t d2 q ≤ 2 + cost b t fil q
   unfolding cost before base
   third_edge [] true = omega arith
-  third_edge [] false = elim b [ true ↦ omega arith | false ↦ omega arith ]
+  third_edge [] false = elim b as (λ k. cost k [] d2 false ≤ 2 + cost k [] fil false) [ true ↦ omega arith | false ↦ omega arith ]
   third_edge (c ∷ t) q = omega arith

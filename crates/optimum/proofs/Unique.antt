@@ -13,12 +13,29 @@ use borrow.Author.Tests.{ltb-true, ltb-false}
 use Rattle.codeword.specs.Pads.{pad_at}
 use Rattle.codeword.specs.Best.{used, ◌≼◌, none_differs, differs, equals, Best}
 
+between : {v w x y : List ℕ} → v ≼ w → x ≼ y → x ≡ w → y ≡ v → v ≡ w
+between none_differs r e f = refl
+between (differs h) none_differs e f = absurd (cc)
+between (differs {a = a} {b = b} h) (differs {a = c} {b = d} g) e f =
+    let p : c ≡ b = cc in
+    let q : d ≡ a = cc in
+    absurd (omega arith)
+between (differs {a = a} {b = b} h) (equals {a = c} g) e f =
+    let p : c ≡ b = cc in
+    let q : c ≡ a = cc in
+    absurd (omega arith)
+between (equals h) none_differs e f = absurd (cc)
+between (equals {a = a} h) (differs {a = c} {b = d} g) e f =
+    let p : c ≡ a = cc in
+    let q : d ≡ a = cc in
+    absurd (omega arith)
+between (equals {a = a} {v = v} {w = w} h) (equals {v = x} {w = y} g) e f =
+    let p : x ≡ w = cc in
+    let q : y ≡ v = cc in
+    ap (λ l. a ∷ l) (between h g p q)
+
 both_ways : {v w : List ℕ} → v ≼ w → w ≼ v → v ≡ w
-both_ways none_differs r = refl
-both_ways (differs h) (differs g) = absurd (omega arith)
-both_ways (differs h) (equals g) = absurd (omega arith)
-both_ways (equals h) (differs g) = absurd (omega arith)
-both_ways (equals {a = a} h) (equals g) = ap (λ l. a ∷ l) (both_ways h g)
+both_ways h g = between h g refl refl
 
 pub one_best : (t : List ℕ) (max : ℕ) (ws vs : List ℕ) → Best t max ws → Best t max vs → ws ≡ vs
 one_best t max ws vs B D = ext_get_or 0 ws vs len each

@@ -109,5 +109,11 @@ copied {n = n} {u = u} o b old new h e k c =
           ∙ ap (λ (y : Whole). lent_by y old) i ∙ lent_is o old,
     )
 
+pub as_copied : {n : ℕ} {new : List ℕ} (b old : List ℕ) → n ≤ length b → new ≡ take n b ++ drop n old
+    → new ≡ take (length (take n b)) (take n b) ++ drop (length (take n b)) old
+as_copied {n = n} b old k c =
+    c ∙ ap (λ (t : List ℕ). t ++ drop n old) (sym (take_all n (take n b) (omega (arith, length-take-le n b k))))
+    ∙ ap (λ (m : ℕ). take m (take n b) ++ drop m old) (sym (length-take-le n b k))
+
 pub text_size : {r : SymbolRead} {n u : ℕ} → r ≡ Text n u → length_of r ≤ limit → n ≤ limit
 text_size h e = subst (λ (y : SymbolRead). length_of y ≤ limit) h e

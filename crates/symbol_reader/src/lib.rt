@@ -280,6 +280,6 @@ pub fn read_symbol(codewords: &[u8], text: &mut [u8]) -> SymbolRead
             place: wrong,
         });
     }
-    bytes::copy(&buffer[..n], text);
+    refusal::copy(&buffer, text, n);
     answer
 }
