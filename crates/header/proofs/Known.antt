@@ -8,7 +8,7 @@ use native.Mathlib.Omega.{arith}
 use lib.Dec.{eqb}
 use lib.ListN.{length, get_or}
 use borrow.Author.Tests.{eqb-true, le-leb, lt-leb, eq-eqb, ne_eqb}
-use Rattle.refusal.specs.Answers.{Answer, good, refused, ◌>>=◌, ◌>>◌}
+use Rattle.refusal.specs.Answers.{Answer, good, refused, ◌>>=◌}
 use Rattle.refusal.specs.Numbers.{header_too_short, not_dc}
 use Rattle.refusal.specs.Chars.{chars_at}
 use Rattle.refusal.specs.declared.Refusal.{Refusal}

@@ -366,6 +366,7 @@ fn hex_char(v: u16) -> u8
     }
 }
 
+#[tactic(auto, unfolding(crate::specs::Header::digits))]
 fn hex_digits(n: u16) -> [u8; 4]
     ensures { result ≡ digits n }
 {

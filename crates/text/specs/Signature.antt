@@ -1,7 +1,7 @@
 -- The signature: Base32 behind the mark 31, for 64, 96 or 132 bytes (document 01, "The text").
 use Rattle.std.specs.Prelude.{ℕ, suc, ◌-◌, ◌%◌, Bool, ◌||◌, List, [], ◌∷◌, eqb, length, get_or}
 use Rattle.refusal.specs.Pick.{pick}
-use Rattle.refusal.specs.Answers.{Answer, good, ◌>>=◌, ◌>>◌, check}
+use Rattle.refusal.specs.Answers.{Answer, good, ◌>>◌, check}
 use Rattle.refusal.specs.Numbers.{signature_length, signature_character, spare_bits, annex}
 use Rattle.base32.specs.Base32.{in_alphabet, value_of, decoded, encoded}
 use Rattle.header.specs.declared.Version.{Version}

@@ -11,7 +11,7 @@ use lib.ListN.{length, take, drop, length-drop}
 use lib.Seq.{slice, length-slice, take_all}
 use borrow.Author.Tests.{le-leb, lt-leb}
 use Rattle.refusal.specs.Answers.{Answer, good, refused}
-use Rattle.refusal.specs.Numbers.{no_mark, text_too_long, lent_too_short, refusal}
+use Rattle.refusal.specs.Numbers.{no_mark, text_too_long, lent_too_short}
 use Rattle.refusal.specs.Limits.{limit, most_fields}
 use Rattle.refusal.specs.declared.Refusal.{Refusal}
 use Rattle.refusal.proofs.Binds.{same_good, by_bind, by_check}
