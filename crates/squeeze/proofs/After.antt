@@ -4,12 +4,12 @@
 use Prim.Native.Nat.{ℕ, zero, suc, ◌+◌, ◌-◌, ◌≤◌, ◌<◌}
 use mathlib.Core.Bool.{Bool, true, false, ◌&&◌}
 use mathlib.Core.List.{List, [], ◌∷◌, ◌++◌, map, append_assoc, append-nil}
-use mathlib.Core.Path.{◌≡◌, refl, sym, ap, subst, ◌∙◌}
+use mathlib.Core.Path.{◌≡◌, refl, sym, ap, ◌∙◌}
 use native.Mathlib.Omega.{arith}
-use lib.Dec.{leb, ltb, eqb}
-use lib.ListN.{length, get_or, drop, replicate, length-append, length-replicate}
+use lib.Dec.{leb, eqb}
+use lib.ListN.{length, get_or, drop, replicate}
 use lib.Seq.{drop_at}
-use borrow.Author.Tests.{lt-ltb, leb-true, eq-eqb}
+use borrow.Author.Tests.{lt-ltb, leb-true}
 use Rattle.refusal.specs.Pick.{pick}
 use Rattle.refusal.specs.Answers.{Answer, good, refused, ◌>>=◌, ◌>>◌, check}
 use Rattle.refusal.specs.Numbers.{lent_too_short, text_too_long, file_full, no_scan}
@@ -22,7 +22,7 @@ use Rattle.day_file.specs.Plain.{numbered, live, size, add_plain, fetch_plain}
 use Rattle.day_file.specs.Promise.{adding, fetching}
 use Rattle.day_file.proofs.Holding.{Holds, opens}
 use Rattle.squeeze.specs.Squeeze.{is_live, live_ones, old_numbers, up_from, live_sum, squeezing, squeezed, squeezed_slice}
-use Rattle.squeeze.proofs.Sizes.{live_size, squeezed_least, squeezed_records, squeezed_opens, squeezed_adds, old_count, all_live}
+use Rattle.squeeze.proofs.Sizes.{live_size, squeezed_records, squeezed_opens, squeezed_adds, old_count}
 
 -- a slice that holds a file is opened as its list
 pub held_opens : (s : List ℕ) (len : ℕ) (rs : List Scan) → Holds s len rs → opened s len ≡ good rs

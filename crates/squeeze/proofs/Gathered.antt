@@ -1,26 +1,25 @@
 -- The live records moved to the front: what stands there after i records, and behind them what stood there before.
 -- Assumes nothing.
-use Prim.Native.Nat.{ℕ, zero, suc, ◌+◌, ◌-◌, ◌*◌, ◌≤◌, ◌<◌}
+use Prim.Native.Nat.{ℕ, suc, ◌+◌, ◌-◌, ◌*◌, ◌≤◌, ◌<◌}
 use mathlib.Core.Bool.{Bool, true, false}
 use mathlib.Core.List.{List, [], ◌∷◌, ◌++◌, append-nil}
-use mathlib.Core.Path.{◌≡◌, refl, sym, ap, subst, ◌∙◌}
+use mathlib.Core.Path.{◌≡◌, refl, sym, ap, ◌∙◌}
 use native.Mathlib.Omega.{arith}
 use lib.Dec.{eqb}
 use lib.ListN.{length, get_or, take, drop, length-append, length-drop}
-use lib.Seq.{get_or-drop, drop-drop, take_at, paste, take-paste, drop-paste, length-paste}
+use lib.Seq.{drop-drop, take_at, paste, take-paste, drop-paste}
 use Rattle.refusal.specs.Pick.{pick}
 use Rattle.day_file.specs.File.{Scan, record_of, need, body, trailer, bytes_of}
 use Rattle.day_file.specs.Opening.{two_at, four_at}
 use Rattle.day_file.specs.Plain.{numbered}
 use Rattle.day_file.proofs.Bytes.{Bytes}
 use Rattle.day_file.proofs.Good.{four_drop}
-use Rattle.day_file.proofs.Holding.{Holds}
 use Rattle.day_file.proofs.Places.{state_there, length_there, within, body_append, body_more, parted, in_body}
 use Rattle.day_file.proofs.Numbered.{at_it}
 use Rattle.squeeze.specs.Squeeze.{is_live, live_ones}
 use Rattle.squeeze.specs.inner.Code.{scans_in, Opens}
 use Rattle.squeeze.proofs.Live.{no_live, live_more}
-use Rattle.squeeze.proofs.Walks.{held, count_is, trails, in_list, start_here, inside_here, all_of}
+use Rattle.squeeze.proofs.Walks.{held, trails, in_list, start_here, inside_here, all_of}
 
 -- the same from a on, so the same from any place behind
 pub same_behind : (f g : List ℕ) (a p : ℕ) → drop a f ≡ drop a g → a ≤ p → drop p f ≡ drop p g

@@ -1,12 +1,12 @@
 -- One more entry of a list that is written from a place on, and one more byte of a move.
 -- Assumes nothing.
-use Prim.Native.Nat.{ℕ, zero, suc, ◌+◌, ◌-◌, ◌*◌, ◌≤◌, ◌<◌}
+use Prim.Native.Nat.{ℕ, zero, suc, ◌+◌, ◌-◌, ◌≤◌, ◌<◌}
 use mathlib.Core.List.{List, [], ◌∷◌, ◌++◌, append_assoc}
-use mathlib.Core.Path.{◌≡◌, refl, sym, ap, subst, ◌∙◌}
+use mathlib.Core.Path.{◌≡◌, refl, sym, ap, ◌∙◌}
 use native.Mathlib.Omega.{arith}
 use native.Mathlib.Numerals.{add-one}
 use lib.ListN.{length, get_or, set, take, drop, length-append, length-drop, replicate, replicate-append-replicate}
-use lib.Seq.{drop-cons, set_at, append_snoc, paste, paste-suc, drop-paste, get_or-drop, length-paste}
+use lib.Seq.{drop-cons, set_at, append_snoc, paste, paste-suc, drop-paste, get_or-drop}
 use Rattle.refusal.specs.Over.{over}
 use Rattle.day_file.specs.Pieces.{put_at}
 use Rattle.day_file.proofs.Putting.{head_put}

@@ -1,20 +1,20 @@
 -- Live records of lists one behind the other, and of a list with one more.
 -- Assumes nothing.
-use Prim.Native.Nat.{ℕ, zero, suc, ◌+◌, ◌-◌, ◌*◌, ◌≤◌, ◌<◌}
-use mathlib.Core.Bool.{Bool, true, false, ◌&&◌}
-use mathlib.Core.List.{List, [], ◌∷◌, ◌++◌, append_assoc, append-nil}
-use mathlib.Core.Path.{◌≡◌, refl, sym, ap, subst, ◌∙◌}
+use Prim.Native.Nat.{ℕ, zero, suc, ◌+◌, ◌≤◌, ◌<◌}
+use mathlib.Core.Bool.{Bool, true, false}
+use mathlib.Core.List.{List, [], ◌∷◌, ◌++◌, append-nil}
+use mathlib.Core.Path.{◌≡◌, refl, sym, ap, ◌∙◌}
 use native.Mathlib.Omega.{arith}
 use native.Mathlib.Nat.{add-zero}
 use lib.Dec.{leb, eqb}
-use lib.ListN.{length, get_or, set, take, drop, length-append, take-append-drop}
+use lib.ListN.{length, set, take, drop, length-append, take-append-drop}
 use lib.Seq.{length-take-le}
 use borrow.Author.Tests.{leb-true, eqb-true, eqb-false, eq-eqb}
 use Rattle.refusal.specs.Pick.{pick}
 use Rattle.refusal.proofs.Binds.{by_and}
 use Rattle.day_file.specs.File.{Scan, states}
 use Rattle.day_file.specs.Plain.{numbered}
-use Rattle.day_file.proofs.Places.{one_more, body_append}
+use Rattle.day_file.proofs.Places.{one_more}
 use Rattle.refusal.specs.Over.{over}
 use Rattle.squeeze.specs.Squeeze.{is_live, live_ones, old_numbers}
 use Rattle.squeeze.proofs.Sizes.{old_count}

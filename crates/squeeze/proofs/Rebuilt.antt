@@ -1,15 +1,13 @@
 -- The live records gathered, zeros behind them, their trailer over the zeros; and what is answered, test by test.
 -- Assumes nothing.
-use Prim.Native.Nat.{ℕ, zero, suc, ◌+◌, ◌-◌, ◌*◌, ◌≤◌, ◌<◌}
-use mathlib.Core.Bool.{Bool, true, false, ◌&&◌}
-use mathlib.Core.List.{List, [], ◌∷◌, ◌++◌, append_assoc}
-use mathlib.Core.Path.{◌≡◌, refl, sym, ap, subst, ◌∙◌}
+use Prim.Native.Nat.{ℕ, ◌+◌, ◌-◌, ◌*◌, ◌≤◌, ◌<◌}
+use mathlib.Core.List.{List, ◌++◌, append_assoc}
+use mathlib.Core.Path.{◌≡◌, sym, ap, ◌∙◌}
 use native.Mathlib.Omega.{arith}
-use lib.Dec.{leb}
-use lib.ListN.{length, take, drop, length-append, length-drop, replicate, length-replicate, replicate-append-replicate}
-use lib.Seq.{take_at, drop_at, drop-drop, length-take-le}
+use lib.ListN.{length, take, drop, length-append, replicate, length-replicate, replicate-append-replicate}
+use lib.Seq.{drop_at, drop-drop, length-take-le}
 use borrow.Author.Tests.{le-leb, lt-leb}
-use Rattle.refusal.specs.Answers.{Answer, good, refused, ◌>>=◌, ◌>>◌, check}
+use Rattle.refusal.specs.Answers.{good, refused}
 use Rattle.refusal.specs.Numbers.{lent_too_short}
 use Rattle.refusal.specs.Over.{over}
 use Rattle.day_file.specs.File.{Scan, body, bytes_of}
@@ -18,12 +16,11 @@ use Rattle.day_file.specs.Pieces.{put_at}
 use Rattle.day_file.proofs.Bytes.{Bytes}
 use Rattle.day_file.proofs.Good.{size_is}
 use Rattle.day_file.proofs.Standing.{scans_of}
-use Rattle.day_file.proofs.Holding.{Holds}
 use Rattle.day_file.proofs.Putting.{take_put, length_put}
 use Rattle.squeeze.specs.Squeeze.{live_ones, squeezing, squeezed}
 use Rattle.squeeze.specs.inner.Code.{scans_in, Opens}
 use Rattle.squeeze.proofs.Sizes.{squeezed_least}
-use Rattle.squeeze.proofs.Walks.{held, opened_is, small_count}
+use Rattle.squeeze.proofs.Walks.{held, small_count}
 use Rattle.squeeze.proofs.Gathered.{same_behind}
 
 module _ (s : List ℕ) (len count t : ℕ) (y : Bytes s) (e : Opens s len count t) where

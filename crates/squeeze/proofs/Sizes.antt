@@ -1,25 +1,25 @@
 -- What a squeezed file holds: its size, its records and their numbers, and what can be added to it. By induction on the list.
 -- Assumes nothing.
-use Prim.Native.Nat.{ℕ, zero, suc, ◌+◌, ◌-◌, ◌*◌, ◌≤◌, ◌<◌}
-use mathlib.Core.Bool.{Bool, true, false, ◌&&◌}
+use Prim.Native.Nat.{ℕ, zero, suc, ◌+◌, ◌-◌, ◌≤◌, ◌<◌}
+use mathlib.Core.Bool.{Bool, true, false}
 use mathlib.Core.List.{List, [], ◌∷◌, ◌++◌, map, append_assoc}
-use mathlib.Core.Path.{◌≡◌, refl, sym, ap, subst, ◌∙◌}
+use mathlib.Core.Path.{◌≡◌, refl, sym, ap, ◌∙◌}
 use native.Mathlib.Omega.{arith}
-use lib.Dec.{leb, ltb, eqb}
-use lib.ListN.{length, get_or, set, take, drop, length-append, length-drop, replicate, length-replicate}
-use lib.Seq.{drop_at, drop-drop, get_or_at}
-use borrow.Author.Tests.{leb-true, le-leb, eqb-true, lt-leb}
+use lib.Dec.{leb}
+use lib.ListN.{length, drop, length-append, length-drop, replicate, length-replicate}
+use lib.Seq.{drop_at, get_or_at}
+use borrow.Author.Tests.{le-leb, eqb-true}
 use Rattle.refusal.specs.Pick.{pick}
-use Rattle.refusal.specs.Answers.{Answer, good, refused, ◌>>=◌, ◌>>◌, check}
-use Rattle.refusal.specs.Numbers.{lent_too_short, text_too_long, file_full, no_scan}
+use Rattle.refusal.specs.Answers.{good, refused, ◌>>◌, check}
+use Rattle.refusal.specs.Numbers.{text_too_long, file_full}
 use Rattle.refusal.specs.Limits.{limit}
 use Rattle.refusal.specs.Over.{over}
-use Rattle.refusal.proofs.Binds.{by_and, by_check, by_bind}
+use Rattle.refusal.proofs.Binds.{by_and}
 use Rattle.day_file.specs.File.{Scan, most_bytes, need, states, bytes_of}
 use Rattle.day_file.specs.Opening.{opened}
 use Rattle.day_file.specs.Plain.{numbered, live, size, add_plain}
 use Rattle.day_file.specs.Promise.{adding}
-use Rattle.squeeze.specs.Squeeze.{is_live, live_ones, old_numbers, up_from, live_sum, squeezing, squeezed, squeezed_slice}
+use Rattle.squeeze.specs.Squeeze.{is_live, live_ones, old_numbers, live_sum, squeezed}
 use Rattle.day_file.proofs.Good.{size_plain}
 use Rattle.day_file.proofs.Holding.{opens, Holds}
 

@@ -1,10 +1,10 @@
 -- The record number i of a file that was opened: its start, its state, and that it stands in the slice.
 -- Assumes nothing.
-use Prim.Native.Nat.{ℕ, zero, suc, ◌+◌, ◌-◌, ◌*◌, ◌≤◌, ◌<◌}
-use mathlib.Core.List.{List, [], ◌∷◌, ◌++◌}
-use mathlib.Core.Path.{◌≡◌, refl, sym, ap, subst, ◌∙◌}
+use Prim.Native.Nat.{ℕ, ◌+◌, ◌*◌, ◌≤◌, ◌<◌}
+use mathlib.Core.List.{List}
+use mathlib.Core.Path.{◌≡◌, sym, ap, subst, ◌∙◌}
 use native.Mathlib.Omega.{arith}
-use lib.ListN.{length, get_or, take, drop}
+use lib.ListN.{length, get_or, take}
 use lib.Seq.{take_all}
 use Rattle.refusal.specs.Answers.{good}
 use Rattle.day_file.specs.File.{most_bytes, body}
@@ -12,7 +12,7 @@ use Rattle.day_file.specs.Opening.{two_at, four_at, opened}
 use Rattle.day_file.specs.Plain.{numbered}
 use Rattle.day_file.proofs.Bytes.{Bytes}
 use Rattle.day_file.proofs.Holding.{Holds}
-use Rattle.day_file.proofs.Numbered.{Known, known, start_is, state_is, length_is, inside}
+use Rattle.day_file.proofs.Numbered.{known, start_is, state_is, length_is, inside}
 use Rattle.squeeze.specs.inner.Code.{list_of, scans_in, Opens}
 use Rattle.squeeze.proofs.Live.{state_small}
 
