@@ -1,6 +1,6 @@
 -- What printing the check words answers, and what it leaves in the lent list: document 02, K3.
 use Rattle.std.specs.Prelude.{ℕ, ◌+◌, List, ◌++◌, ◌≡◌, leb, length}
-use Rattle.refusal.specs.Answers.{Answer, good, refused, ◌>>=◌, ◌>>◌, check}
+use Rattle.refusal.specs.Answers.{Answer, good, refused, ◌>>◌, check}
 use Rattle.refusal.specs.Numbers.{refusal, count_no_capacity, lent_too_short, several_blocks}
 use Rattle.refusal.specs.Over.{over}
 use Rattle.codeword.specs.Sizes.{is_capacity}

@@ -10,7 +10,7 @@ use lib.ListN.{length, set, get_or-eq_default}
 use borrow.Author.Tests.{ne_eqb, lt-ltb, le-ltb}
 use Rattle.refusal.specs.Pick.{pick}
 use Rattle.refusal.specs.Among.{among}
-use Rattle.refusal.specs.Answers.{Answer, good, refused, ◌>>◌, check}
+use Rattle.refusal.specs.Answers.{Answer, good, refused, check}
 use Rattle.refusal.specs.Numbers.{type_not_covered, identifier_missing, identifier_not_permitted, refusal}
 use Rattle.dictionary.specs.declared.Field.{Field}
 use Rattle.dictionary.specs.Rows.{row_count, rows}

@@ -1,15 +1,13 @@
 -- Adding a scan: the record where the trailer stood, the new trailer behind it; and what is answered, test by test.
 -- Assumes nothing.
-use Prim.Native.Nat.{ℕ, zero, suc, ◌+◌, ◌-◌, ◌*◌, ◌≤◌, ◌<◌}
-use mathlib.Core.Bool.{Bool, true, false}
+use Prim.Native.Nat.{ℕ, ◌+◌, ◌-◌, ◌≤◌, ◌<◌}
 use mathlib.Core.List.{List, [], ◌∷◌, ◌++◌, append-nil}
-use mathlib.Core.Path.{◌≡◌, refl, sym, ap, subst, ◌∙◌}
+use mathlib.Core.Path.{◌≡◌, refl, sym, ap, ◌∙◌}
 use native.Mathlib.Omega.{arith}
-use lib.Dec.{leb}
 use lib.ListN.{length, take, drop, length-append}
-use lib.Seq.{take_at, drop_at, take-take}
+use lib.Seq.{take_at, take-take}
 use borrow.Author.Tests.{le-leb, lt-leb}
-use Rattle.refusal.specs.Answers.{Answer, good, refused, ◌>>=◌, ◌>>◌, check}
+use Rattle.refusal.specs.Answers.{good, refused}
 use Rattle.refusal.specs.Numbers.{text_too_long, file_full}
 use Rattle.refusal.specs.Limits.{limit}
 use Rattle.refusal.specs.Over.{over}
@@ -19,10 +17,9 @@ use Rattle.day_file.specs.Plain.{live, size}
 use Rattle.day_file.specs.Promise.{adding}
 use Rattle.day_file.specs.Answers.{added_answer}
 use Rattle.day_file.specs.Pieces.{put_at}
-use Rattle.day_file.specs.declared.Added.{Added}
-use Rattle.day_file.specs.declared.Added.TheVariants.{Done, NotAdded}
+use Rattle.day_file.specs.declared.Added.TheVariants.{Done}
 use Rattle.day_file.proofs.Standing.{scans_of}
-use Rattle.day_file.proofs.Good.{size_is, size_plain}
+use Rattle.day_file.proofs.Good.{size_plain}
 use Rattle.day_file.proofs.Holding.{Holds}
 use Rattle.day_file.proofs.Places.{body_append}
 use Rattle.day_file.proofs.Putting.{head_put, drop_put, length_put}

@@ -1,13 +1,13 @@
 -- Numbers in two bytes and in four, both ways, and bytes of a part.
 -- Assumes nothing.
-use Prim.Native.Nat.{ℕ, zero, suc, ◌+◌, ◌-◌, ◌*◌, ◌/◌, ◌%◌, ◌≤◌, ◌<◌}
+use Prim.Native.Nat.{ℕ, ◌+◌, ◌*◌, ◌/◌, ◌%◌, ◌≤◌, ◌<◌}
 use mathlib.Core.Bool.{Bool, true, false}
 use mathlib.Core.List.{List, [], ◌∷◌, ◌++◌}
-use mathlib.Core.Path.{◌≡◌, refl, sym, ap, subst, ◌∙◌}
+use mathlib.Core.Path.{◌≡◌, refl}
 use native.Mathlib.Omega.{arith}
 use lib.Dec.{ltb}
 use lib.ListN.{length, get_or, take, drop, get_or-eq_default, length-take}
-use lib.Seq.{get_or-drop, get_or-take, length-take-le}
+use lib.Seq.{get_or-drop, get_or-take}
 use borrow.Author.Tests.{ltb-true, ltb-false}
 use Rattle.day_file.specs.File.{two, four}
 use Rattle.day_file.specs.Opening.{two_at, four_at}

@@ -18,10 +18,9 @@ use Rattle.day_file.specs.Opening.{opened}
 use Rattle.day_file.specs.Plain.{numbered, found, fetch_plain}
 use Rattle.day_file.specs.Promise.{fetching, Place, placing}
 use Rattle.day_file.specs.Answers.{placed_answer, text_of}
-use Rattle.day_file.specs.declared.Placed.{Placed}
 use Rattle.day_file.specs.declared.Placed.TheVariants.{At, Nowhere}
 use Rattle.day_file.proofs.Bytes.{Bytes}
-use Rattle.day_file.proofs.Holding.{Holds, holds}
+use Rattle.day_file.proofs.Holding.{holds}
 use Rattle.day_file.proofs.Numbered.{text_is, inside}
 
 is_placed : (x : Answer Place) (start n : ℕ) → At start n ≡ placed_answer x → x ≡ good (record { start = start; length = n })

@@ -1,21 +1,20 @@
 -- A file is good exactly where it is that of a list of scans, each state 0 or 1, of at most 32,768 bytes; and that list is the only one.
 -- One way: what the walk finds, written again, is what it went over. The other: each test of the walk is met by the file of a list.
 -- Assumes nothing.
-use Prim.Native.Nat.{ℕ, zero, suc, ◌+◌, ◌-◌, ◌*◌, ◌/◌, ◌%◌, ◌≤◌, ◌<◌}
-use mathlib.Core.Bool.{Bool, true, false, ◌&&◌}
-use mathlib.Core.List.{List, [], ◌∷◌, ◌++◌, append_assoc}
+use Prim.Native.Nat.{ℕ, ◌+◌, ◌*◌, ◌≤◌}
+use mathlib.Core.Bool.{Bool, true, false}
+use mathlib.Core.List.{List, [], ◌∷◌, ◌++◌}
 use mathlib.Core.Path.{◌≡◌, refl, sym, ap, subst, ◌∙◌}
 use native.Mathlib.Omega.{arith}
 use native.Mathlib.Nat.{add-zero}
 use lib.Dec.{leb, eqb}
-use lib.ListN.{length, get_or, take, drop, length-append, length-drop, length-take, take-append-drop, drop_of_length-le}
-use lib.Seq.{length-take-le, take-add, drop_at, take_at, drop-drop, get_or-drop, take_all, take-append-le, get_or-append-add}
+use lib.ListN.{length, take, drop, length-append, length-drop, take-append-drop}
+use lib.Seq.{length-take-le, drop_at, take_at, drop-drop, get_or-drop, take_all}
 use borrow.Author.Tests.{leb-true, eqb-true, le-leb, eq-eqb}
-use Rattle.refusal.specs.Answers.{Answer, good, refused, ◌>>=◌, ◌>>◌, check}
-use Rattle.refusal.specs.Numbers.{lent_too_short, bad_file}
-use Rattle.refusal.specs.Over.{over}
+use Rattle.refusal.specs.Answers.{good, refused, ◌>>◌, check}
+use Rattle.refusal.specs.Numbers.{bad_file}
 use Rattle.refusal.proofs.Binds.{by_check, same_good, never}
-use Rattle.day_file.specs.File.{Scan, FileOf, most_bytes, two, four, need, body, starts, states, trailer, bytes_of}
+use Rattle.day_file.specs.File.{Scan, FileOf, most_bytes, four, need, body, starts, states, trailer, bytes_of}
 use Rattle.day_file.specs.Opening.{four_at, count_in, trailer_in, scans, standing, records}
 use Rattle.day_file.specs.Plain.{size}
 use Rattle.day_file.proofs.Bytes.{Bytes, bytes_drop, bytes_take, four_back, four_is}

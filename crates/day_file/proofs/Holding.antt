@@ -1,15 +1,15 @@
 -- A file in a lent slice: what stands there where it is opened, and that the file of a list, put there, is opened as that list.
 -- Assumes nothing.
-use Prim.Native.Nat.{ℕ, zero, suc, ◌+◌, ◌-◌, ◌*◌, ◌≤◌, ◌<◌}
-use mathlib.Core.Bool.{Bool, true, false, ◌&&◌}
-use mathlib.Core.List.{List, [], ◌∷◌, ◌++◌, append_assoc}
-use mathlib.Core.Path.{◌≡◌, refl, sym, ap, subst, ◌∙◌}
+use Prim.Native.Nat.{ℕ, ◌+◌, ◌*◌, ◌≤◌}
+use mathlib.Core.Bool.{true}
+use mathlib.Core.List.{List, ◌++◌}
+use mathlib.Core.Path.{◌≡◌, refl, sym, ap, ◌∙◌}
 use native.Mathlib.Omega.{arith}
-use lib.Dec.{leb, eqb}
-use lib.ListN.{length, get_or, take, drop, length-append, length-drop, take-append-drop}
-use lib.Seq.{length-take-le, drop_at, take_at}
+use lib.Dec.{leb}
+use lib.ListN.{length, take, drop, length-append, length-drop, take-append-drop}
+use lib.Seq.{length-take-le, take_at}
 use borrow.Author.Tests.{leb-true, le-leb}
-use Rattle.refusal.specs.Answers.{Answer, good, refused, ◌>>=◌, ◌>>◌, check}
+use Rattle.refusal.specs.Answers.{good}
 use Rattle.refusal.specs.Numbers.{lent_too_short, bad_file}
 use Rattle.refusal.specs.Over.{over}
 use Rattle.refusal.proofs.Binds.{by_check}

@@ -1,16 +1,14 @@
 -- The record of a number in a file that a slice holds: its start, its state, its length and its text, and withdrawing it; and what the
 -- operations answer, test by test.
 -- Assumes nothing.
-use Prim.Native.Nat.{ℕ, zero, suc, ◌+◌, ◌-◌, ◌*◌, ◌≤◌, ◌<◌}
-use mathlib.Core.Bool.{Bool, true, false}
-use mathlib.Core.List.{List, [], ◌∷◌, ◌++◌}
-use mathlib.Core.Path.{◌≡◌, refl, sym, ap, subst, ◌∙◌}
+use Prim.Native.Nat.{ℕ, suc, ◌+◌, ◌*◌, ◌≤◌, ◌<◌}
+use mathlib.Core.List.{List, ◌∷◌, ◌++◌}
+use mathlib.Core.Path.{◌≡◌, refl, sym, ap, ◌∙◌}
 use native.Mathlib.Omega.{arith}
-use lib.Dec.{leb, ltb, eqb}
 use lib.ListN.{length, get_or, set, take, drop, length-append, length-drop, length-set}
 use lib.Seq.{length-take-le, set_split}
 use borrow.Author.Tests.{lt-ltb, le-ltb, eq-eqb, ne_eqb, le-leb, lt-leb}
-use Rattle.refusal.specs.Answers.{Answer, good, refused, ◌>>=◌, ◌>>◌, check}
+use Rattle.refusal.specs.Answers.{Answer, good, refused}
 use Rattle.refusal.specs.Numbers.{refusal, text_too_long, no_scan}
 use Rattle.refusal.specs.Limits.{limit}
 use Rattle.refusal.specs.Over.{over}
@@ -19,11 +17,9 @@ use Rattle.day_file.specs.Opening.{two_at, four_at, opened}
 use Rattle.day_file.specs.Plain.{numbered, withdrawn}
 use Rattle.day_file.specs.Promise.{withdrawing, placing}
 use Rattle.day_file.specs.Answers.{opened_answer}
-use Rattle.day_file.specs.declared.Opened.{Opened}
 use Rattle.day_file.specs.declared.Opened.TheVariants.{Good, NotGood}
 use Rattle.refusal.specs.declared.Refusal.{Refusal}
 use Rattle.day_file.proofs.Bytes.{Bytes}
-use Rattle.day_file.proofs.Good.{size_is}
 use Rattle.day_file.proofs.Holding.{Holds, holds}
 use Rattle.day_file.proofs.Places.{state_there, length_there, text_there, within, in_file, start_there, one_byte, parted}
 

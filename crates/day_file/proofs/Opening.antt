@@ -1,20 +1,17 @@
 -- Opening a file, test by test.
 -- Assumes nothing.
-use Prim.Native.Nat.{ℕ, zero, suc, ◌+◌, ◌-◌, ◌*◌, ◌≤◌, ◌<◌}
-use mathlib.Core.Bool.{Bool, true, false}
-use mathlib.Core.List.{List, [], ◌∷◌, ◌++◌}
-use mathlib.Core.Path.{◌≡◌, refl, sym, ap, subst, ◌∙◌}
-use native.Mathlib.Omega.{arith}
-use lib.Dec.{leb, eqb}
-use lib.ListN.{length, get_or, take, drop}
+use Prim.Native.Nat.{ℕ, ◌+◌, ◌*◌, ◌≤◌, ◌<◌}
+use mathlib.Core.Bool.{true, false}
+use mathlib.Core.List.{List}
+use mathlib.Core.Path.{◌≡◌, sym, ap, ◌∙◌}
+use lib.ListN.{length, take, drop}
 use borrow.Author.Tests.{le-leb, lt-leb, eq-eqb, ne_eqb}
-use Rattle.refusal.specs.Answers.{Answer, good, refused, ◌>>=◌, ◌>>◌, check}
+use Rattle.refusal.specs.Answers.{good, refused}
 use Rattle.refusal.specs.Numbers.{lent_too_short, bad_file}
 use Rattle.day_file.specs.File.{most_bytes}
 use Rattle.day_file.specs.Opening.{count_in, trailer_in, scans, standing, records, opened}
 use Rattle.day_file.specs.Answers.{opened_answer}
-use Rattle.day_file.specs.declared.Opened.{Opened}
-use Rattle.day_file.specs.declared.Opened.TheVariants.{Good, NotGood}
+use Rattle.day_file.specs.declared.Opened.TheVariants.{Good}
 use Rattle.day_file.proofs.Bytes.{Bytes}
 use Rattle.day_file.proofs.Good.{accepted}
 

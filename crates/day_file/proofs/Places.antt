@@ -1,13 +1,13 @@
 -- Where the record of a number stands, and where its start stands: what the bytes there are.
 -- Assumes nothing.
-use Prim.Native.Nat.{ℕ, zero, suc, ◌+◌, ◌-◌, ◌*◌, ◌≤◌, ◌<◌}
+use Prim.Native.Nat.{ℕ, suc, ◌+◌, ◌-◌, ◌*◌, ◌≤◌, ◌<◌}
 use mathlib.Core.List.{List, [], ◌∷◌, ◌++◌, append_assoc, append-nil}
-use mathlib.Core.Path.{◌≡◌, refl, sym, ap, subst, ◌∙◌}
+use mathlib.Core.Path.{◌≡◌, refl, sym, ap, ◌∙◌}
 use native.Mathlib.Omega.{arith}
 use native.Mathlib.Nat.{add-zero}
 use native.Mathlib.Numerals.{add-one}
 use lib.ListN.{length, get_or, set, take, drop, length-append, length-drop}
-use lib.Seq.{length-take-le, take_at, drop_at, drop-drop, get_or-drop, get_or-take, take-suc, split_at, set_split, set_at, take-length}
+use lib.Seq.{take_at, drop_at, drop-drop, get_or-drop, take-suc, split_at, set_at}
 use Rattle.day_file.specs.File.{Scan, four, record_of, need, body, starts, trailer, bytes_of}
 use Rattle.day_file.specs.Opening.{two_at, four_at}
 use Rattle.day_file.specs.Plain.{numbered, withdrawn}

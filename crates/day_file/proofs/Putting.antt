@@ -1,11 +1,11 @@
 -- Pieces put one behind the other into a lent slice.
 -- Assumes nothing.
-use Prim.Native.Nat.{ℕ, zero, suc, ◌+◌, ◌-◌, ◌*◌, ◌≤◌, ◌<◌}
+use Prim.Native.Nat.{ℕ, suc, ◌+◌, ◌-◌, ◌≤◌}
 use mathlib.Core.List.{List, [], ◌∷◌, ◌++◌, append_assoc, append-nil}
-use mathlib.Core.Path.{◌≡◌, refl, sym, ap, subst, ◌∙◌}
+use mathlib.Core.Path.{◌≡◌, refl, sym, ap, ◌∙◌}
 use native.Mathlib.Omega.{arith}
-use lib.ListN.{length, get_or, set, take, drop, length-append, length-drop, length-set, take-append-drop, drop_of_length-le}
-use lib.Seq.{length-take-le, drop_at, take_at, drop-drop, take_all, sets, sets-eq, take-append-le, take-take, take-length}
+use lib.ListN.{length, set, take, drop, length-append, length-drop, take-append-drop, drop_of_length-le}
+use lib.Seq.{length-take-le, drop_at, take_at, drop-drop, take_all, sets-eq, take-length}
 use borrow.Rule.Slice.PartMut.{put_mid}
 use Rattle.refusal.specs.Over.{over}
 use Rattle.day_file.specs.Pieces.{put_at}

@@ -1,19 +1,19 @@
 -- Any sequence of adding, withdrawing and fetching answers on a file as on the plain list. By induction on the sequence.
 -- Assumes nothing.
-use Prim.Native.Nat.{ℕ, zero, suc, ◌+◌, ◌-◌, ◌*◌, ◌≤◌, ◌<◌}
-use mathlib.Core.Bool.{Bool, true, false, ◌&&◌}
-use mathlib.Core.List.{List, [], ◌∷◌, ◌++◌, append_assoc}
+use Prim.Native.Nat.{ℕ, zero, suc, ◌+◌, ◌-◌, ◌≤◌}
+use mathlib.Core.Bool.{true}
+use mathlib.Core.List.{List, [], ◌∷◌, ◌++◌}
 use mathlib.Core.Path.{◌≡◌, refl, sym, ap, subst, ◌∙◌}
 use native.Mathlib.Omega.{arith}
 use lib.Dec.{leb, ltb, eqb}
-use lib.ListN.{length, get_or, set, take, drop, length-append, length-drop, replicate}
+use lib.ListN.{length, set, drop, replicate}
 use lib.Seq.{drop_at, drop-drop}
-use borrow.Author.Tests.{leb-true, ltb-true}
-use Rattle.refusal.specs.Answers.{Answer, good, refused, ◌>>=◌, ◌>>◌, check}
+use borrow.Author.Tests.{leb-true}
+use Rattle.refusal.specs.Answers.{Answer, good, refused}
 use Rattle.refusal.specs.Numbers.{text_too_long, file_full, no_scan}
 use Rattle.refusal.specs.Limits.{limit}
 use Rattle.refusal.specs.Over.{over}
-use Rattle.refusal.proofs.Binds.{by_check, by_bind, by_and, same_good, never}
+use Rattle.refusal.proofs.Binds.{by_check, by_bind, by_and, same_good}
 use Rattle.day_file.specs.File.{Scan, most_bytes, need, body, starts, states, bytes_of}
 use Rattle.day_file.specs.Opening.{opened}
 use Rattle.day_file.specs.Plain.{numbered, live, withdrawn, size, add_plain, found, withdraw_plain, fetch_plain}

@@ -1,18 +1,18 @@
 -- The trailer, put behind the records that stand from the start up to t: start by start, then the count and its own start.
 -- Assumes nothing.
-use Prim.Native.Nat.{ℕ, zero, suc, ◌+◌, ◌-◌, ◌*◌, ◌≤◌, ◌<◌}
-use mathlib.Core.List.{List, [], ◌∷◌, ◌++◌, append_assoc}
-use mathlib.Core.Path.{◌≡◌, refl, sym, ap, subst, ◌∙◌}
+use Prim.Native.Nat.{ℕ, suc, ◌+◌, ◌*◌, ◌≤◌, ◌<◌}
+use mathlib.Core.List.{List, ◌++◌, append_assoc}
+use mathlib.Core.Path.{◌≡◌, refl, sym, ap, ◌∙◌}
 use native.Mathlib.Omega.{arith}
-use lib.ListN.{length, get_or, take, drop, length-append, length-drop}
-use lib.Seq.{length-take-le, take_all, get_or-take, drop-drop}
+use lib.ListN.{length, get_or, take, drop, length-append}
+use lib.Seq.{length-take-le, take_all, get_or-take}
 use Rattle.refusal.specs.Over.{over}
-use Rattle.day_file.specs.File.{Scan, four, record_of, need, body, starts, trailer, bytes_of}
+use Rattle.day_file.specs.File.{Scan, four, record_of, need, body, starts, bytes_of}
 use Rattle.day_file.specs.Opening.{two_at, scans}
 use Rattle.day_file.specs.Plain.{numbered}
 use Rattle.day_file.specs.Pieces.{put_at}
 use Rattle.day_file.proofs.Standing.{length_scans}
-use Rattle.day_file.proofs.Good.{length_starts, length_body}
+use Rattle.day_file.proofs.Good.{length_starts}
 use Rattle.day_file.proofs.Putting.{length_put, take_put, put_none, put_put, put_over}
 use Rattle.day_file.proofs.Places.{in_body, length_there, within, parted, starts_more, body_more}
 

@@ -1,7 +1,7 @@
 -- A file taken apart, by one walk over its records. `proofs/Good` has that this gives the one list whose file it is, and 35 exactly
 -- where there is none.
 use Rattle.std.specs.Prelude.{ℕ, zero, suc, ◌+◌, ◌-◌, ◌*◌, Bool, ◌&&◌, List, [], ◌∷◌, leb, eqb, length, get_or, take, drop}
-use Rattle.refusal.specs.Answers.{Answer, good, ◌>>=◌, ◌>>◌, check}
+use Rattle.refusal.specs.Answers.{Answer, good, ◌>>◌, check}
 use Rattle.refusal.specs.Numbers.{lent_too_short, bad_file}
 use Rattle.day_file.specs.File.{Scan, most_bytes}
 

@@ -3,7 +3,7 @@
 use Prim.Native.Nat.{◌+◌, ◌<◌, ◌≤◌, suc, ℕ}
 use lib.ListN.{drop, drop_of_length-le, get_or, length, set, take}
 use lib.Seq.{append_snoc, drop-cons, length-take-le, set_at, take_all, take-suc}
-use mathlib.Core.List.{List, [], ◌++◌, ◌∷◌, append-nil}
+use mathlib.Core.List.{List, [], ◌++◌, ◌∷◌}
 use mathlib.Core.Path.{◌∙◌, ◌≡◌, ap, ap₂, refl, sym}
 use native.Mathlib.Numerals.{add-one}
 use native.Mathlib.Omega.{arith}

@@ -24,4 +24,4 @@ pub returns-clause-lent : goal.returns-clause-lent
 returns-clause-lent c =
     let a = c.args in
     let is = sym c.in-Words.is ∙ c.judge-answer.ensures in listed a.codewords.now a.list.now c.list_into.new.list _ c.in-Words.m
-          (bytes_of a.codewords.now (λ i. omega (arith, c.shared_slice_known-1.given i))) (was_good _ _ (sym is)) refl c.list_into.ensures
+    (bytes_of a.codewords.now (λ i. omega (arith, c.shared_slice_known-1.given i))) (was_good _ _ (sym is)) refl c.list_into.ensures

@@ -7,12 +7,11 @@ use Rattle.check_words.specs.Register.{feeds}
 use Rattle.check_words.proofs.divide.Goals as goal
 
 pub loop-i-preserved : goal.loop-i-preserved
-loop-i-preserved c =
-    (
-      omega arith,
-      c.feed_one.auto.r ∙ c.loop-i.invariant.1,
-      feeds_next c.args.g.now c.loop-i.r _ c.args.words.now _ c.loop-i.i (omega arith) c.loop-i.invariant.2 c.feed_one.ensures,
-    )
+loop-i-preserved c = (
+  omega arith,
+  c.feed_one.auto.r ∙ c.loop-i.invariant.1,
+  feeds_next c.args.g.now c.loop-i.r _ c.args.words.now _ c.loop-i.i (omega arith) c.loop-i.invariant.2 c.feed_one.ensures,
+)
 
 pub returns : goal.returns
 returns c =

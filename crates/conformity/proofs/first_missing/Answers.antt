@@ -1,11 +1,8 @@
 use Prim.Native.Nat.{ℕ, ◌-◌}
-use mathlib.Core.Logic.{⊎_elim}
 use mathlib.Core.Path.{◌≡◌, ap, sym, ◌∙◌}
 use native.Mathlib.Omega.{arith}
-use borrow.Author.Tests.{not-false}
 use Rattle.conformity.specs.inner.Noted.{none_missing, table_at}
 use Rattle.conformity.proofs.Steps.{turn_ends, turn_replaced, turn_other}
-use borrow.Author.Rules.{rules}
 use Rattle.conformity.proofs.first_missing.Goals as goal
 use Rattle.conformity.proofs.first_missing.Goals.{then-rows-n-eq-MISSING+else-not-is_replaced, else-rows-n-eq-MISSING}
 
@@ -22,7 +19,7 @@ loop-n-preserved c =
     let small = c.loop-n-test.true in (
       omega arith,
       elim c.if-rows-n-eq-MISSING.branch [
-        then-rows-n-eq-MISSING+else-not-is_replaced w ↦ turn_replaced xs a.rows.now l.n small w.if-rows-n-eq-MISSING.true _ w.is_replaced.ensures w.if-not-is_replaced.false
+        | then-rows-n-eq-MISSING+else-not-is_replaced w ↦ turn_replaced xs a.rows.now l.n small w.if-rows-n-eq-MISSING.true _ w.is_replaced.ensures w.if-not-is_replaced.false
         | else-rows-n-eq-MISSING w ↦ turn_other xs a.rows.now l.n small w.if-rows-n-eq-MISSING.false
       ] ∙ l.invariant.1,
     )

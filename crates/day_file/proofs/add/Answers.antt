@@ -61,6 +61,9 @@ returns-else-len-n-gt-MOST_BYTES c =
     let s = c.args in
     let k = its in
     let r = c.if-len-n-gt-MOST_BYTES.false in
-    let e = add_good s.file.now s.len s.text.now k.rs k.is c.if-n-gt-LIMIT.false k.held r in record { answer = done_is s.file.now s.len k.rs k.held s.text.now r c.in-Good.t k.trails c.in-Good.count k.count_is ∙ sym (ap added_answer e); lent = c.put_trailer.ensures
+    let e = add_good s.file.now s.len s.text.now k.rs k.is c.if-n-gt-LIMIT.false k.held r in record {
+      answer = done_is s.file.now s.len k.rs k.held s.text.now r c.in-Good.t k.trails c.in-Good.count k.count_is ∙ sym (ap added_answer e);
+      lent = c.put_trailer.ensures
           ∙ added_then s.file.now s.len k.rs k.held s.text.now r c.in-Good.t k.trails c.put_record.new.file c.put_record.ensures c.in-Good.count k.count_is
-          ∙ sym (ap (λ x. slice_after x s.file.now) e) }
+          ∙ sym (ap (λ x. slice_after x s.file.now) e);
+    }

@@ -1,5 +1,5 @@
 -- The first i are copied, and the others as they were.
-use Rattle.std.proofs.Common.{◌-◌, ◌≡◌, ◌++◌, ◌≤◌, length, take, drop}
+use Rattle.std.proofs.Common.{◌-◌, ◌≡◌, ◌++◌, ◌≤◌, take, drop}
 use Rattle.refusal.proofs.copy.Given as goal
 
 abbrev pub invariant-loop-i : goal.invariant-loop-i
