@@ -17,7 +17,7 @@ pub const SLOTS: usize = 262;
 pub const MOST_COUNT: u32 = 4294967295;
 
 #[repr(C)]
-#[derive(Drop)]
+#[derive(Clone, Copy)]
 pub struct Tally {
     pub counts: [u32; SLOTS],
 }
