@@ -1,14 +1,14 @@
 -- EVERY WRITTEN TEXT HAS CHARACTERS BELOW 128, piece by piece: a header's parts are of its sets, identifiers and marks are small, data are of
 -- the row's characters, and the signature is of the alphabet.
 -- Assumes nothing.
-use Prim.Native.Nat.{ℕ, zero, suc, ◌+◌, ◌/◌, ◌%◌, ◌≤◌, ◌<◌}
+use Prim.Native.Nat.{ℕ, zero, suc, ◌+◌, ◌/◌, ◌%◌, ◌<◌}
 use mathlib.Core.Bool.{Bool, true, false, ◌&&◌}
 use mathlib.Core.List.{List, [], ◌∷◌, ◌++◌, map}
-use mathlib.Core.Path.{◌≡◌, refl, ap, sym, subst, ◌∙◌}
+use mathlib.Core.Path.{◌≡◌, refl, sym, subst}
 use native.Mathlib.Omega.{arith}
 use lib.Dec.{leb, ltb, eqb}
 use lib.ListN.{length, get_or}
-use borrow.Author.Tests.{leb-true, ltb-true, ltb-false, eqb-true}
+use borrow.Author.Tests.{leb-true, ltb-true, eqb-true}
 use Rattle.refusal.specs.Pick.{pick}
 use Rattle.refusal.specs.Answers.{good}
 use Rattle.refusal.specs.Numbers.{text_too_long, lent_too_short, too_many_fields, wrong_header_character, wrong_perimeter, signature_length}
@@ -25,13 +25,13 @@ use Rattle.base32.proofs.RoundTrip.{values_below, value_char}
 use Rattle.header.specs.declared.Version.{Version}
 use Rattle.header.specs.declared.Version.TheVariants.{V02, V03, V04}
 use Rattle.header.specs.declared.Header.{Header}
-use Rattle.header.specs.Header.{upper_or_digit, hex, part, hex_char, digits, perimeter01, version_chars, header_chars, write_header, Shaped, kept}
+use Rattle.header.specs.Header.{upper_or_digit, part, hex_char, digits, perimeter01, version_chars, header_chars, write_header, Shaped, kept}
 use Rattle.header.specs.inner.Code.{perimeter_in, country_in, perimeter_of, country_of}
 use Rattle.text.specs.Signature.{length_of_bytes, write_signature}
 use Rattle.text.specs.Text.{Message, in_turn, ending, data_of, write_field, write_zone, writing, write_text}
 use Rattle.laws.proofs.Back.{Admitted, admitted}
 use Rattle.laws.proofs.Heads.{PartsOf, parts_of, HeaderBack, header_back}
-use Rattle.refusal.specs.Classes.{between, digit, upper}
+use Rattle.refusal.specs.Classes.{digit, upper}
 
 both : (l m : List ℕ) → Below 128 l → Below 128 m → Below 128 (l ++ m)
 both [] m b c = c
