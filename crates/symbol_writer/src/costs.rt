@@ -19,7 +19,7 @@ pub struct Least {
 
 // By the state of the writer: in ASCII mode, behind the first digit of two, in C40 mode with none, one or two values in the pair,
 // and at the very end of the text, where the count is even.
-#[derive(Drop)]
+#[derive(Clone, Copy)]
 pub struct Costs {
     pub ascii: Least,
     pub digit: Least,
@@ -29,6 +29,7 @@ pub struct Costs {
     pub end: u16,
 }
 
+#[tactic(auto, unfolding(optimum::specs::Cost::digit))]
 pub fn is_digit(c: u8) -> bool
     ensures { result ≡ digit c }
 {
@@ -172,6 +173,7 @@ fn costs_before(c: u8, k: Costs) -> Costs
 }
 
 // The costs at the end of the text, where a pad follows or the symbol is exactly full.
+#[tactic(auto, unfolding(optimum::specs::Cost::base))]
 fn costs_at_end(padded: bool) -> Costs
     ensures { result ≡ costs_of (base padded) }
 {

@@ -26,6 +26,7 @@ fn full_fits(full: Least, n: usize) -> bool
 }
 
 // The sizes up to the largest permitted, from the smallest: with a pad behind the fewest codewords, or exactly full.
+#[tactic(auto, unfolding(codeword::specs::Sizes::capacities))]
 pub fn choose_size(largest: usize, fewest: usize, full: Least) -> Size
     ensures { IsSize largest fewest full result }
 {
