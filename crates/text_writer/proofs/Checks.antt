@@ -9,9 +9,8 @@ use native.Mathlib.Omega.{arith}
 use lib.ListN.{length, get_or, take, drop, length-append, drop_of_length-le}
 use lib.Seq.{take-suc, drop-cons}
 use borrow.Author.Tests.{ne_eqb}
-use Rattle.refusal.specs.Pick.{pick}
 use Rattle.refusal.proofs.Binds.{clash}
-use Rattle.dictionary.specs.Dictionary.{allowed, is_greatest, full}
+use Rattle.dictionary.specs.Dictionary.{allowed, full}
 use Rattle.dictionary.specs.declared.Row.{Row}
 use Rattle.header.specs.declared.Header.{Header}
 use Rattle.header.specs.declared.Version.{Version}

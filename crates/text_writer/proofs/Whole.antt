@@ -3,9 +3,9 @@
 -- Assumes nothing.
 use Prim.Native.Nat.{◌≤◌}
 use mathlib.Core.List.{List}
-use mathlib.Core.Path.{◌≡◌, sym, ◌∙◌}
+use mathlib.Core.Path.{◌≡◌}
 use native.Mathlib.Omega.{arith}
-use lib.ListN.{length, length-map}
+use lib.ListN.{length}
 use mir.Val.{Val}
 use denote.Laws.{Is}
 use denote.Struct.Laws as laws
@@ -15,7 +15,7 @@ use Rattle.dictionary.specs.contracts.Fields as type
 use Rattle.dictionary.proofs.Fields.TheLaws as type-laws
 
 whole_list : (f : Fields) (vs : List Val) → Is type.the_row f vs → length f.list ≡ most_fields
-whole_list f vs g = sym (length-map f.list _) ∙ (laws.owed type.the_type type-laws.the_laws f vs g).0.1.0.1
+whole_list f vs g = (laws.owed type.the_type type-laws.the_laws f vs g).0.1.0.1
 
 pub in_list : (f : Fields) (vs : List Val) → Is type.the_row f vs → f.count ≤ most_fields → f.count ≤ length f.list
 in_list f vs g h = omega (arith, whole_list f vs g)

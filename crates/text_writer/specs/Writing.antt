@@ -1,6 +1,6 @@
 -- What `write_text` answers and leaves in the output, and what its parts answer, by the definition of writing a text.
 use Rattle.std.specs.Prelude.{ℕ, List, ◌≡◌, leb, length, take}
-use Rattle.refusal.specs.Answers.{Answer, good, refused, ◌>>=◌, ◌>>◌, check}
+use Rattle.refusal.specs.Answers.{Answer, good, refused, ◌>>◌, check}
 use Rattle.refusal.specs.Numbers.{refusal, too_many_fields}
 use Rattle.refusal.specs.Limits.{most_fields}
 use Rattle.refusal.specs.Over.{over}

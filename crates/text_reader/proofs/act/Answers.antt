@@ -1,5 +1,4 @@
--- `act` meets its contract: each return is a law of what a character does, by the tests that led there. `w` is the place behind the
--- two tests of the row.
+-- `act` meets its contract: each return is a law of what a character does, by the tests that led there.
 use Rattle.text_reader.proofs.Steps.{full_fixed, full_cut, full_next, fixed_more, fixed_wrong, free_ends, free_cuts, free_more, free_wrong}
 use Rattle.text_reader.proofs.act.Goals as goal
 
