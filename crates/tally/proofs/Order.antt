@@ -8,7 +8,7 @@ use mathlib.Core.Path.{◌≡◌, refl, sym, ap, ◌∙◌}
 use lib.Dec.{ltb}
 use lib.ListN.{get_or, set}
 use Rattle.refusal.specs.Pick.{pick}
-use Rattle.refusal.specs.Answers.{good, refused}
+use Rattle.refusal.specs.Answers.{good}
 use Rattle.refusal.specs.Numbers.{count_full}
 use Rattle.refusal.proofs.Binds.{by_bind, by_check, same_good}
 use Rattle.day_file.specs.File.{Scan}

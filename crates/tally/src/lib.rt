@@ -23,7 +23,7 @@ pub struct Tally {
 }
 
 // The tally with what was added, and 0; or a refusal's number, and the tally as it was.
-#[derive(Drop)]
+#[derive(Clone, Copy)]
 pub struct Counted {
     pub number: u8,
     pub tally: Tally,

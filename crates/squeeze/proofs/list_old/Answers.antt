@@ -17,23 +17,23 @@ loop-i-init c = let s = c.args in (omega arith, sym (ap length no_old), sym (ap 
 
 pub overflow_mul-i : goal.overflow_mul-i
 overflow_mul-i c =
-    let sums : let s = c.args in (s.t + 4 * s.count + 8 ≡ s.len) × (s.len ≤ 32768) × (32768 ≤ length s.file.now) = small_count c.args.file.now c.args.len c.args.count c.args.t (λ i. omega (arith, c.shared_slice_known-1.given i)) c.requires.0 in
+    let sums : let s = c.args in (s.t + 4 * s.count + 8 ≡ s.len) × (s.len ≤ 32768) × (32768 ≤ length s.file.now) = small_count c.args.file.now c.args.len c.args.count c.args.t (λ i. omega (arith, c.type_inv.file i)) c.requires.0 in
     omega (arith, sums)
 
 pub overflow_add-t : goal.overflow_add-t
 overflow_add-t c =
-    let sums : let s = c.args in (s.t + 4 * s.count + 8 ≡ s.len) × (s.len ≤ 32768) × (32768 ≤ length s.file.now) = small_count c.args.file.now c.args.len c.args.count c.args.t (λ i. omega (arith, c.shared_slice_known-1.given i)) c.requires.0 in
+    let sums : let s = c.args in (s.t + 4 * s.count + 8 ≡ s.len) × (s.len ≤ 32768) × (32768 ≤ length s.file.now) = small_count c.args.file.now c.args.len c.args.count c.args.t (λ i. omega (arith, c.type_inv.file i)) c.requires.0 in
     omega (arith, sums)
 
 pub four_at-at-requires : goal.four_at-at-requires
 four_at-at-requires c =
-    let sums : let s = c.args in (s.t + 4 * s.count + 8 ≡ s.len) × (s.len ≤ 32768) × (32768 ≤ length s.file.now) = small_count c.args.file.now c.args.len c.args.count c.args.t (λ i. omega (arith, c.shared_slice_known-1.given i)) c.requires.0 in
+    let sums : let s = c.args in (s.t + 4 * s.count + 8 ≡ s.len) × (s.len ≤ 32768) × (32768 ≤ length s.file.now) = small_count c.args.file.now c.args.len c.args.count c.args.t (λ i. omega (arith, c.type_inv.file i)) c.requires.0 in
     omega (arith, sums)
 
 pub bounds-file-at : goal.bounds-file-at
 bounds-file-at c =
     let byte : let s = c.args in (c.four_at-at.result < length s.file.now) × (get_or s.file.now c.four_at-at.result 0 ≡ (numbered (scans_in s.file.now s.len) c.loop-i.i).state)
-    × (c.loop-i.i < length (scans_in s.file.now s.len)) × (length (old_numbers 0 (take c.loop-i.i (scans_in s.file.now s.len))) ≤ s.count) = let y : Bytes c.args.file.now = λ i. omega (arith, c.shared_slice_known-1.given i) in
+    × (c.loop-i.i < length (scans_in s.file.now s.len)) × (length (old_numbers 0 (take c.loop-i.i (scans_in s.file.now s.len))) ≤ s.count) = let y : Bytes c.args.file.now = λ i. omega (arith, c.type_inv.file i) in
     let h = c.loop-i-test.true in
     let rs = scans_in c.args.file.now c.args.len in
     let e = c.four_at-at.ensures.is ∙ start_here c.args.file.now c.args.len c.args.count c.args.t y c.requires.0 c.loop-i.i h in (
@@ -47,7 +47,7 @@ bounds-file-at c =
 pub note-j-requires : goal.note-j-requires
 note-j-requires c =
     let byte : let s = c.args in (c.four_at-at.result < length s.file.now) × (get_or s.file.now c.four_at-at.result 0 ≡ (numbered (scans_in s.file.now s.len) c.loop-i.i).state)
-    × (c.loop-i.i < length (scans_in s.file.now s.len)) × (length (old_numbers 0 (take c.loop-i.i (scans_in s.file.now s.len))) ≤ s.count) = let y : Bytes c.args.file.now = λ i. omega (arith, c.shared_slice_known-1.given i) in
+    × (c.loop-i.i < length (scans_in s.file.now s.len)) × (length (old_numbers 0 (take c.loop-i.i (scans_in s.file.now s.len))) ≤ s.count) = let y : Bytes c.args.file.now = λ i. omega (arith, c.type_inv.file i) in
     let h = c.loop-i-test.true in
     let rs = scans_in c.args.file.now c.args.len in
     let e = c.four_at-at.ensures.is ∙ start_here c.args.file.now c.args.len c.args.count c.args.t y c.requires.0 c.loop-i.i h in (
@@ -56,7 +56,7 @@ note-j-requires c =
       in_list c.args.file.now c.args.len c.args.count c.args.t y c.requires.0 c.loop-i.i h,
       omega (arith, old_front 0 c.loop-i.i rs, old_count 0 rs, live_least_count rs, count_is c.args.file.now c.args.len c.args.count c.args.t y c.requires.0),
     ) in
-    let sums : let s = c.args in (s.t + 4 * s.count + 8 ≡ s.len) × (s.len ≤ 32768) × (32768 ≤ length s.file.now) = small_count c.args.file.now c.args.len c.args.count c.args.t (λ i. omega (arith, c.shared_slice_known-1.given i)) c.requires.0 in
+    let sums : let s = c.args in (s.t + 4 * s.count + 8 ≡ s.len) × (s.len ≤ 32768) × (32768 ≤ length s.file.now) = small_count c.args.file.now c.args.len c.args.count c.args.t (λ i. omega (arith, c.type_inv.file i)) c.requires.0 in
     let w = byte in
     let n = sums in (
       λ g. omega (arith, number_fits (scans_in c.args.file.now c.args.len) c.loop-i.i w.2 (get_or c.args.file.now c.four_at-at.result 0) w.1 c.loop-i.j c.loop-i.invariant.1 g, c.requires.1, c.loop-i.invariant.3),
@@ -67,7 +67,7 @@ note-j-requires c =
 pub loop-i-preserved : goal.loop-i-preserved
 loop-i-preserved c =
     let byte : let s = c.args in (c.four_at-at.result < length s.file.now) × (get_or s.file.now c.four_at-at.result 0 ≡ (numbered (scans_in s.file.now s.len) c.loop-i.i).state)
-    × (c.loop-i.i < length (scans_in s.file.now s.len)) × (length (old_numbers 0 (take c.loop-i.i (scans_in s.file.now s.len))) ≤ s.count) = let y : Bytes c.args.file.now = λ i. omega (arith, c.shared_slice_known-1.given i) in
+    × (c.loop-i.i < length (scans_in s.file.now s.len)) × (length (old_numbers 0 (take c.loop-i.i (scans_in s.file.now s.len))) ≤ s.count) = let y : Bytes c.args.file.now = λ i. omega (arith, c.type_inv.file i) in
     let h = c.loop-i-test.true in
     let rs = scans_in c.args.file.now c.args.len in
     let e = c.four_at-at.ensures.is ∙ start_here c.args.file.now c.args.len c.args.count c.args.t y c.requires.0 c.loop-i.i h in (

@@ -1,5 +1,5 @@
 -- What the inner functions are told of a file that was opened. No public promise cites it.
-use Rattle.std.specs.Prelude.{ℕ, List, [], ◌≡◌}
+use Rattle.std.specs.Prelude.{ℕ, List, ◌≡◌}
 use Rattle.day_file.specs.File.{Scan}
 use Rattle.day_file.specs.Opening.{records}
 use Rattle.day_file.specs.Answers.{opened_answer}
