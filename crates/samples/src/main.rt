@@ -9,88 +9,84 @@ ghost use Rattle.refusal.specs.Limits.{most_fields};
 use conformity::Conformity;
 use dictionary::{Field, Fields};
 use header::Header;
+use std::io::{self, Read};
 use symbol_reader::SymbolRead;
 use symbol_writer::SymbolWritten;
 use text_reader::{Outcome, TextRead};
 
 // A control character is printed as its number in brackets, as document 01 writes it.
-fn show_character(c: u8) {
+fn show_character(rt: &impl Print, c: u8) -> io::Result<()> {
     if c < 32 {
-        io::write_all(1, b"(");
-        io::print_decimal(1, c as u64);
-        io::write_all(1, b")");
-        return;
+        return print!(rt; "({c})");
     }
     let one = [c; 1];
-    io::write_all(1, &one);
+    rt.write_all(&one)
 }
 
 // The first n bytes of the lent text.
-fn show_text(text: &[u8], n: usize) {
+fn show_text(rt: &impl Print, text: &[u8], n: usize) -> io::Result<()> {
     let mut i = 0;
     while i < text.len() {
         if n <= i {
-            return;
+            return Ok(());
         }
-        show_character(text[i]);
+        show_character(rt, text[i])?;
         i += 1;
     }
+    Ok(())
 }
 
-fn show_codeword(w: u8) {
-    io::print_decimal(1, w as u64);
-    io::write_all(1, b" ");
+fn show_codeword(rt: &impl Print, w: u8) -> io::Result<()> {
+    print!(rt; "{w} ")
 }
 
-fn show_codewords(codewords: &[u8]) {
+fn show_codewords(rt: &impl Print, codewords: &[u8]) -> io::Result<()> {
     let mut i = 0;
     while i < codewords.len() {
-        show_codeword(codewords[i]);
+        show_codeword(rt, codewords[i])?;
         i += 1;
     }
+    Ok(())
 }
 
 // The first n codewords of a lent symbol.
-fn show_first(symbol: &[u8], n: usize) {
+fn show_first(rt: &impl Print, symbol: &[u8], n: usize) -> io::Result<()> {
     let mut i = 0;
     while i < symbol.len() {
         if n <= i {
-            return;
+            return Ok(());
         }
-        show_codeword(symbol[i]);
+        show_codeword(rt, symbol[i])?;
         i += 1;
     }
+    Ok(())
 }
 
-fn show_refusal(r: refusal::Refusal) {
-    io::write_all(1, b"refused ");
-    io::print_decimal(1, r.number as u64);
-    io::write_all(1, b" at place ");
-    io::print_decimal(1, r.place as u64);
+fn show_refusal(rt: &impl Print, r: refusal::Refusal) -> io::Result<()> {
+    print!(rt; "refused {} at place {}", r.number, r.place)
 }
 
-fn show_read(answer: SymbolRead, text: &[u8]) {
+fn show_read(rt: &impl Print, answer: SymbolRead, text: &[u8]) -> io::Result<()> {
     match answer {
         SymbolRead::Text(n, used) => {
-            io::write_all(1, b"is ");
-            show_text(text, n);
-            io::write_all(1, b", codewords before padding: ");
-            io::print_decimal(1, used as u64);
+            print!(rt; "is ")?;
+            show_text(rt, text, n)?;
+            print!(rt; ", codewords before padding: {used}")?;
         }
-        SymbolRead::Refused(r) => show_refusal(r),
+        SymbolRead::Refused(r) => show_refusal(rt, r)?,
     }
-    io::write_all(1, b"\n");
+    println!(rt; "")
 }
 
-fn read(codewords: &[u8]) {
+fn read(rt: &impl Print, codewords: &[u8]) -> io::Result<()> {
     let mut text = [0u8; refusal::LIMIT];
     let answer = symbol_reader::read_symbol(codewords, &mut text);
-    show_read(answer, &text);
+    show_read(rt, answer, &text)
 }
 
-fn read_shown(codewords: &[u8]) {
-    show_codewords(codewords);
-    read(codewords);
+fn read_shown(rt: &impl Print, codewords: &[u8]) -> io::Result<()> {
+    show_codewords(rt, codewords)?;
+    read(rt, codewords)
 }
 
 // 230 and 254 in turn, the most codewords that a symbol has: each reader hands the rest to the other at once.
@@ -107,50 +103,47 @@ fn latches() -> [u8; 1558]
 }
 
 // A text in a symbol of at most the largest size.
-fn write(text: &[u8], largest: usize) {
+fn write(rt: &impl Print, text: &[u8], largest: usize) -> io::Result<()> {
     let mut work = [0u16; 8192];
     let mut symbol = [0u8; 1558];
     let answer = symbol_writer::write_symbol(text, largest, &mut work, &mut symbol);
     match answer {
         SymbolWritten::Written(capacity, used) => {
-            show_first(&symbol, capacity);
-            io::write_all(1, b"codewords before padding: ");
-            io::print_decimal(1, used as u64);
+            show_first(rt, &symbol, capacity)?;
+            print!(rt; "codewords before padding: {used}")?;
         }
-        SymbolWritten::Refused(r) => show_refusal(r),
+        SymbolWritten::Refused(r) => show_refusal(rt, r)?,
     }
-    io::write_all(1, b"\n");
+    println!(rt; "")
 }
 
-fn write_shown(text: &[u8], largest: usize) {
-    io::write_all(1, text);
-    io::write_all(1, b", largest size ");
-    io::print_decimal(1, largest as u64);
-    io::write_all(1, b": ");
-    write(text, largest);
+fn write_shown(rt: &impl Print, text: &[u8], largest: usize) -> io::Result<()> {
+    rt.write_all(text)?;
+    print!(rt; ", largest size {largest}: ")?;
+    write(rt, text, largest)
 }
 
-fn symbols_written() {
-    io::write_all(1, b"Symbols written\n");
-    write_shown(b"", 1558);
-    write_shown(b"123456", 1558);
-    write_shown(b"ABC", 1558);
-    write_shown(b"AB", 1558);
-    write_shown(b"ABCD", 1558);
-    write_shown(b"AIMAIMAIM", 1558);
-    write_shown(b"ABCD", 3);
-    write_shown(b"ABCD", 4);
+fn symbols_written(rt: &impl Print) -> io::Result<()> {
+    println!(rt; "Symbols written")?;
+    write_shown(rt, b"", 1558)?;
+    write_shown(rt, b"123456", 1558)?;
+    write_shown(rt, b"ABC", 1558)?;
+    write_shown(rt, b"AB", 1558)?;
+    write_shown(rt, b"ABCD", 1558)?;
+    write_shown(rt, b"AIMAIMAIM", 1558)?;
+    write_shown(rt, b"ABCD", 3)?;
+    write_shown(rt, b"ABCD", 4)
 }
 
-fn symbols_read() {
-    io::write_all(1, b"Symbols read\n");
-    read_shown(&[230, 87, 158]);
-    read_shown(&[230, 89, 217]);
-    read_shown(&[230, 250, 0]);
-    read_shown(&[230, 250, 1]);
-    read_shown(&[230, 0, 0]);
-    read_shown(&[230, 89, 218]);
-    read_shown(&[66, 67, 68, 129]);
+fn symbols_read(rt: &impl Print) -> io::Result<()> {
+    println!(rt; "Symbols read")?;
+    read_shown(rt, &[230, 87, 158])?;
+    read_shown(rt, &[230, 89, 217])?;
+    read_shown(rt, &[230, 250, 0])?;
+    read_shown(rt, &[230, 250, 1])?;
+    read_shown(rt, &[230, 0, 0])?;
+    read_shown(rt, &[230, 89, 218])?;
+    read_shown(rt, &[66, 67, 68, 129])
 }
 
 fn field_at(f: Fields, i: usize) -> Field
@@ -160,65 +153,55 @@ fn field_at(f: Fields, i: usize) -> Field
 }
 
 // Row, start and length of each field.
-fn show_fields(f: Fields) {
+fn show_fields(rt: &impl Print, f: Fields) -> io::Result<()> {
     let mut i = 0;
     while i < refusal::MOST_FIELDS {
         if f.count <= i {
-            return;
+            return Ok(());
         }
-        show_field(field_at(f, i));
+        show_field(rt, field_at(f, i))?;
         i += 1;
     }
+    Ok(())
 }
 
-fn show_field(f: Field) {
-    io::write_all(1, b" ");
-    io::print_decimal(1, f.row as u64);
-    io::write_all(1, b"/");
-    io::print_decimal(1, f.start as u64);
-    io::write_all(1, b"/");
-    io::print_decimal(1, f.length as u64);
+fn show_field(rt: &impl Print, f: Field) -> io::Result<()> {
+    print!(rt; " {}/{}/{}", f.row, f.start, f.length)?;
     if f.cut {
-        io::write_all(1, b"/cut");
+        print!(rt; "/cut")?;
     }
+    Ok(())
 }
 
-fn show_conformity(h: Header, f: Fields) {
+fn show_conformity(rt: &impl Print, h: Header, f: Fields) -> io::Result<()> {
     let t = h.doctype;
     let answer = conformity::conforms(t[0], t[1], f);
     match answer {
-        Conformity::Conforms => {
-            io::write_all(1, b"conforms");
-        }
-        Conformity::Refused(r) => show_refusal(r),
+        Conformity::Conforms => print!(rt; "conforms"),
+        Conformity::Refused(r) => show_refusal(rt, r),
     }
 }
 
-fn show_message(r: TextRead) {
+fn show_message(rt: &impl Print, r: TextRead) -> io::Result<()> {
     let h = r.header;
     let f = r.fields;
-    io::write_all(1, b"accepted, days ");
-    io::print_decimal(1, h.issue_day as u64);
-    io::write_all(1, b" and ");
-    io::print_decimal(1, h.signing_day as u64);
-    io::write_all(1, b", signed ");
-    io::print_decimal(1, r.signed_length as u64);
-    io::write_all(1, b", signature ");
-    io::print_decimal(1, r.signature_length as u64);
-    io::write_all(1, b", fields");
-    show_fields(f);
-    io::write_all(1, b"; ");
-    show_conformity(h, f);
+    print!(rt; "accepted, days {} and {}", h.issue_day, h.signing_day)?;
+    print!(rt;
+        ", signed {}, signature {}, fields",
+        r.signed_length, r.signature_length
+    )?;
+    show_fields(rt, f)?;
+    print!(rt; "; ")?;
+    show_conformity(rt, h, f)
 }
 
-fn show_text_read(text: &[u8]) {
+fn show_text_read(rt: &impl Print, text: &[u8]) -> io::Result<()> {
     let r = text_reader::read_text(text, refusal::MOST_FIELDS);
-    let outcome = r.outcome;
-    match outcome {
-        Outcome::Accepted => show_message(r),
-        Outcome::Refused(x) => show_refusal(x),
+    match r.outcome {
+        Outcome::Accepted => show_message(rt, r)?,
+        Outcome::Refused(x) => show_refusal(rt, x)?,
     }
-    io::write_all(1, b"\n");
+    println!(rt; "")
 }
 
 // The end of the line that starts at `from`.
@@ -237,27 +220,28 @@ fn line_end(all: &[u8], from: usize) -> usize
 }
 
 // A text a line.
-fn show_texts(all: &[u8]) {
+fn show_texts(rt: &impl Print, all: &[u8]) -> io::Result<()> {
     let mut from = 0;
     while from < all.len() {
         let end = line_end(all, from);
-        show_text_read(&all[from..end]);
+        show_text_read(rt, &all[from..end])?;
         from = end + 1;
     }
+    Ok(())
 }
 
-fn published() {
-    io::write_all(1, b"Published examples\n");
-    let mut all = io::large_buffer();
-    let n = io::read_full(0, &mut all);
-    show_texts(&all[..n]);
+fn published(rt: &(impl Print + Input + AllocGlobal)) -> io::Result<()> {
+    println!(rt; "Published examples")?;
+    let mut all = Vec::new(rt.alloc());
+    rt.reader().read_to_end(&mut all)?;
+    show_texts(rt, &all)
 }
 
-fn main() {
-    symbols_written();
-    symbols_read();
-    io::write_all(1, b"1558 codewords, 230 254 in turn: ");
+fn main(rt: HostRuntime) -> io::Result<()> {
+    symbols_written(&rt)?;
+    symbols_read(&rt)?;
+    print!(rt; "1558 codewords, 230 254 in turn: ")?;
     let most = latches();
-    read(&most);
-    published();
+    read(&rt, &most)?;
+    published(&rt)
 }
