@@ -380,7 +380,6 @@ struct Tallied {
 }
 
 fn count_numbers(t: Tally, file: &[u8]) -> Tallied
-    requires { length t.counts ≡ 262 }
     ensures { result ≡ tallied_numbers (counted_answer (counting file.now t) t) }
 {
     let c = tally::count_file(t, file);
