@@ -9,7 +9,8 @@ ghost use Rattle.refusal.specs.Limits.{most_fields};
 use conformity::Conformity;
 use dictionary::{Field, Fields};
 use header::Header;
-use std::io::{self, Read};
+use input::read_full;
+use std::io;
 use symbol_reader::SymbolRead;
 use symbol_writer::SymbolWritten;
 use text_reader::{Outcome, TextRead};
@@ -230,11 +231,12 @@ fn show_texts(rt: &impl Print, all: &[u8]) -> io::Result<()> {
     Ok(())
 }
 
-fn published(rt: &(impl Print + Input + AllocGlobal)) -> io::Result<()> {
+fn published(rt: &(impl Print + Input)) -> io::Result<()> {
     println!(rt; "Published examples")?;
-    let mut all = Vec::new(rt.alloc());
-    rt.reader().read_to_end(&mut all)?;
-    show_texts(rt, &all)
+    let mut all = [0u8; 65536];
+    let mut input = rt.reader();
+    let n = read_full(&mut input, &mut all)?;
+    show_texts(rt, &all[..n])
 }
 
 fn main(rt: HostRuntime) -> io::Result<()> {

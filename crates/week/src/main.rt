@@ -3,10 +3,10 @@
 
 #![tactic(auto)]
 
-ghost use Rattle.std.specs.Prelude.{◌≡◌, ◌≤◌, ◌<◌, length, take, IfOk};
-ghost use Rattle.std.specs.Io.KnownBytes.{Consumes, IsAtEnd};
+ghost use Rattle.std.specs.Prelude.{◌≡◌, ◌≤◌, length, IfOk};
 
 use day_file::MOST_BYTES;
+use input::read_full;
 use std::io::{self, Read};
 use tally::Tally;
 
@@ -24,23 +24,6 @@ fn wide(x: u8) -> usize
     ensures { result ≤ 255 }
 {
     x as usize
-}
-
-// Bytes of the input until the buffer is full or the input ends; how many.
-fn read_full<R: Read>(input: &mut R, buf: &mut [u8]) -> io::Result<usize>
-    ensures within { IfOk result (λ n. n ≤ length buf.new) }
-    ensures bytes { IfOk result (λ n. Consumes (R.remaining input.old) (R.remaining input.new) (take n buf.new)) }
-    ensures short { IfOk result (λ n. n < length buf.new → IsAtEnd (R.remaining input.new)) }
-{
-    let mut n = 0;
-    while n < buf.len() {
-        let got = input.read(&mut buf[n..])?;
-        if got == 0 {
-            return Ok(n);
-        }
-        n += got;
-    }
-    Ok(n)
 }
 
 // The next file, into the buffer. A length above 32,768 ends the run like an input that stops.
