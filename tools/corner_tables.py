@@ -97,17 +97,14 @@ def corner_cases():
 def main():
     print("\n".join([
         "-- Readings that the checker computes over the definition. Written by tools/corner_tables.py.",
-        "use Prim.Native.Nat.{ℕ}",
-        "use mathlib.Core.Bool.{true, false}",
-        "use mathlib.Core.List.{List, [], _∷_, map}",
-        "use mathlib.Core.Path.{_≡_, refl}",
-        "use Rattle·codeword·specs.specs.Meanings.{ascii, lone, pair, value, unfinished}",
-        "use Rattle·codeword·specs.specs.Reading.{good, refused, inAscii, read}",
+        "use Rattle.std.specs.Prelude.{ℕ, true, false, List, [], ◌∷◌, map, ◌≡◌, refl}",
+        "use Rattle.codeword.specs.Meanings.{ascii, lone, pair, value, unfinished}",
+        "use Rattle.codeword.specs.Reading.{good, refused, in_ascii, read}",
         "",
         "-- codewords, and the room for characters",
         "abbrev Case : Type 0",
         "Case = List ℕ × ℕ"]
-        + table("corners", "corners, with room for seven characters and for one", "read (x .0) inAscii (x .1)", corner_cases())))
+        + table("corners", "corners, with room for seven characters and for one", "read x.0 in_ascii x.1", corner_cases())))
 
 
 main()
