@@ -135,3 +135,22 @@ module _ (s : List ℕ) (len : ℕ) (rs : List Scan) (e : opened s len ≡ good 
 
       pub place_good : length (numbered rs k).text ≤ limit → placing s len k ≡ good (record { start = length (body (take k rs)) + 3; length = length (numbered rs k).text })
       place_good l = rw (e, lt-ltb k (length rs) h, eq-eqb (numbered rs k).state 1 g, le-leb (length (numbered rs k).text) limit l)
+
+-- where the trailer says that a record starts: it stands there whole, with its state and the length of its text
+pub record Starts (s : List ℕ) (rs : List Scan) (number start : ℕ) : Type 0 where
+  pub low : number < length rs
+  pub is : start ≡ length (body (take number rs))
+  pub room : start + 3 ≤ length s
+  pub state : get_or s start 0 ≡ (numbered rs number).state
+  pub size : two_at s (start + 1) ≡ length (numbered rs number).text
+
+pub starts_at : (s : List ℕ) (len count t number start : ℕ) (k : Known s len count t) → number < count → start ≡ four_at s (t + 4 * number) → Starts s k.rs number start
+starts_at s len count t number start k h e =
+    let low : number < length k.rs = omega (arith, h, k.count_is) in
+    let is : start ≡ length (body (take number k.rs)) = e ∙ ap (λ t. four_at s (t + 4 * number)) k.trails ∙ start_is s len k.rs k.held number low in record {
+      low = low;
+      is = is;
+      room = omega (arith, is, inside s len k.rs k.held number low);
+      state = ap (λ p. get_or s p 0) is ∙ state_is s len k.rs k.held number low;
+      size = ap (λ p. two_at s (p + 1)) is ∙ length_is s len k.rs k.held number low;
+    }

@@ -1,3 +1,4 @@
+-- `read_group` meets its contract: the five stores are the group's bytes.
 use mathlib.Core.List.{[], ◌∷◌}
 use mathlib.Core.Path.{ap, ◌∙◌}
 use lib.Seq.{sets-eq}

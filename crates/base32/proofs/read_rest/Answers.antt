@@ -1,3 +1,4 @@
+-- `read_rest` meets its contract: filled up with A the characters are a group, whose whole bytes are theirs.
 use Prim.Native.Nat.{◌*◌, ◌/◌}
 use mathlib.Core.Path.{ap, ◌∙◌}
 use native.Mathlib.Omega.{arith}

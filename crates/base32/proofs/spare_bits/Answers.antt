@@ -1,3 +1,4 @@
+-- `spare_bits` meets its contract: how many bits are spare hangs on the count of the last group's characters.
 use mathlib.Core.Path.{sym, ap, ◌∙◌}
 use Rattle.base32.proofs.Spare.{spare_in, spare_none, spare_last, spare_all}
 use Rattle.base32.proofs.spare_bits.Goals as goal

@@ -1,3 +1,4 @@
+-- `value_at` meets its contract: a character of the alphabet is a digit or a letter, by the test.
 use native.Mathlib.Omega.{arith}
 use lib.ListN.{get_or}
 use Rattle.base32.proofs.Alphabet.{digits, letters}

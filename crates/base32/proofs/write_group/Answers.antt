@@ -1,3 +1,4 @@
+-- `write_group` meets its contract: five bits of bytes are below 32, and the eight stores are the group's characters.
 use mathlib.Core.List.{[], ◌∷◌}
 use mathlib.Core.Path.{ap, ◌∙◌}
 use lib.Seq.{sets-eq}

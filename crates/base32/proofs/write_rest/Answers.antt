@@ -1,3 +1,4 @@
+-- `write_rest` meets its contract: filled up with zeros the bytes are a group, whose first characters are theirs.
 use Prim.Native.Nat.{◌+◌, ◌*◌, ◌/◌}
 use mathlib.Core.Path.{ap, ◌∙◌}
 use native.Mathlib.Omega.{arith}

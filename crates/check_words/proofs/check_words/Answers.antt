@@ -1,3 +1,4 @@
+-- `check_words` meets its contract: the answer is judged by the numbers alone; where it is good the first words of the list are filled.
 use mathlib.Core.Path.{refl, sym, ◌∙◌}
 use native.Mathlib.Omega.{arith}
 use lib.Seq.{length-take-le}

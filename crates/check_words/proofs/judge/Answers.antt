@@ -1,3 +1,4 @@
+-- `judge` meets its contract: its tests are those of `words_of`, in the same order.
 use Prim.Native.Nat.{ℕ, ◌+◌}
 use mathlib.Core.Path.{sym, ap, ◌∙◌}
 use native.Mathlib.Omega.{arith}

@@ -1,3 +1,4 @@
+-- `by_six` meets its contract: B0 and B1 stand for each other.
 use Rattle.conformity.specs.inner.Noted.{is_there}
 use Rattle.conformity.proofs.Steps.{six_B0, six_B1, six_none}
 use Rattle.conformity.proofs.by_six.Goals as goal

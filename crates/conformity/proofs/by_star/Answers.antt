@@ -1,3 +1,4 @@
+-- `by_star` meets its contract: 10 stands for each of 11, 12 and 13, and these three together for 10.
 use borrow.Author.Tests.{eq-eqb, ne_eqb}
 use Rattle.conformity.specs.inner.Noted.{is_there}
 use Rattle.conformity.proofs.Steps.{star_all, star_no_11, star_no_12, star_11, star_12, star_13, star_none}

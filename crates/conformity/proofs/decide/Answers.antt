@@ -1,3 +1,4 @@
+-- `decide` meets its contract: the tests in the order of the definition.
 use Rattle.conformity.proofs.Steps.{verdict_28, verdict_29, verdict_30, verdict_good}
 use Rattle.conformity.proofs.decide.Goals as goal
 

@@ -1,3 +1,4 @@
+-- `is_replaced` meets its contract: the column has the footnote *, the footnote 6, or none.
 use mathlib.Core.List.{List}
 use mathlib.Core.Path.{sym, ap, ◌∙◌}
 use Rattle.conformity.specs.Tables.{Exchange}

@@ -1,3 +1,4 @@
+-- `marks_of` meets its contract: each table is computed from the definition, and compared number by number.
 use native.Mathlib.Omega.{arith}
 use Rattle.conformity.proofs.Marks.{no_marks}
 use Rattle.conformity.proofs.marks_of.Goals as goal

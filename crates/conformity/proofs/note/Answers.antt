@@ -1,3 +1,4 @@
+-- `note` meets its contract: by the mark of the field's row.
 use mathlib.Core.Path.{◌∙◌}
 use Rattle.conformity.proofs.Lengths.{rows_long}
 use Rattle.conformity.proofs.Steps.{noted_wrong, noted_met, noted_other, noted_no_row}

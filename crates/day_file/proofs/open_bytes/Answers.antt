@@ -1,3 +1,4 @@
+-- `open_bytes` meets its contract, test by test.
 use mathlib.Core.Path.{sym, ap, ◌∙◌}
 use native.Mathlib.Omega.{arith}
 use lib.ListN.{take, drop}

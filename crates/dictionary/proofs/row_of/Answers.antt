@@ -1,3 +1,4 @@
+-- `row_of` meets its contract: the table's numbers from 5 * n on are the row n.
 use Rattle.dictionary.proofs.Flat.{table_row}
 use Rattle.dictionary.proofs.row_of.Goals as goal
 

@@ -1,3 +1,4 @@
+-- `log_of` meets its contract: the table's entry at the place a.
 use Prim.Native.Nat.{ℕ}
 use mathlib.Core.Bool.{true}
 use mathlib.Core.List.{List}

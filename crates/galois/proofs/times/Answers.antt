@@ -1,3 +1,4 @@
+-- `times` meets its contract: the power at the sum of two logarithms.
 use Prim.Native.Nat.{ℕ, ◌+◌}
 use mathlib.Core.List.{List}
 use mathlib.Core.Path.{ap₂, ◌∙◌}
