@@ -95,6 +95,9 @@ module _ (s : List ℕ) (len count t : ℕ) (y : Bytes s) (e : Opens s len count
       let n : two_at g (at + 1) ≡ two_at g (A + 1) = ap (λ a. two_at g (a + 1)) q in
       (omega (arith, w.down), omega (arith, n, size_now, w.long, inside_here s len count t y e i h))
 
+  pub fits_now : (at : ℕ) → at ≡ four_at g (t + 4 * i) → (to ≤ at) × (at + (3 + two_at g (at + 1)) ≤ length g)
+  fits_now at p = keep_fits at (p ∙ start_now)
+
   next_start : length (body (take (i + 1) rs)) ≡ A + need r
   next_start = body_more rs i in_it
 
@@ -150,6 +153,10 @@ module _ (s : List ℕ) (len count t : ℕ) (y : Bytes s) (e : Opens s len count
             long = n ∙ w.long;
             down = omega (arith, x, next_start, w.down);
           }
+
+  pub gathered_now : (at : ℕ) → at ≡ four_at g (t + 4 * i) → (to' : ℕ) (g' : List ℕ) → to' ≡ pick (eqb (get_or g at 0) 1) (to + (3 + two_at g (at + 1))) to
+      → g' ≡ pick (eqb (get_or g at 0) 1) (paste g to (drop at g) (3 + two_at g (at + 1))) g → length g' ≡ length g → Gathered s len (i + 1) to' g'
+  gathered_now at p = one_gathered at (p ∙ start_now)
 
 pub all_gathered : (s : List ℕ) (len count t : ℕ) (y : Bytes s) (e : Opens s len count t) (i to : ℕ) (g : List ℕ) → count ≤ i → Gathered s len i to g
     → (to ≡ length (body (live_ones (scans_in s len)))) × (take to g ≡ body (live_ones (scans_in s len))) × (drop t g ≡ drop t s)

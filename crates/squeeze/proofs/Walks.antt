@@ -16,6 +16,7 @@ use Rattle.day_file.proofs.Numbered.{known, start_is, state_is, length_is, insid
 use Rattle.squeeze.specs.inner.Code.{list_of, scans_in, Opens}
 use Rattle.squeeze.proofs.Live.{state_small}
 
+-- an answer gives `search rules` for y, which finds that the slice holds bytes
 module _ (s : List ℕ) (len count t : ℕ) (y : Bytes s) (e : Opens s len count t) where
   scans_is : scans_in s len ≡ (known s len count t y e).rs
   scans_is = ap list_of (known s len count t y e).is
@@ -56,3 +57,10 @@ module _ (s : List ℕ) (len count t : ℕ) (y : Bytes s) (e : Opens s len count
 
     pub small_here : (numbered (scans_in s len) i).state ≤ 1
     small_here = state_small (scans_in s len) i held.small
+
+    -- the state, read at the start that the trailer tells
+    pub state_at : (at : ℕ) → at ≡ four_at s (t + 4 * i)
+        → (at < length s) × (get_or s at 0 ≡ (numbered (scans_in s len) i).state) × ((numbered (scans_in s len) i).state ≤ 1)
+    state_at at p =
+        let q = p ∙ start_here in
+        (omega (arith, q, inside_here), ap (λ a. get_or s a 0) q ∙ state_here, small_here)

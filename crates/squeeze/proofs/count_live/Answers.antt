@@ -1,67 +1,49 @@
-use Prim.Native.Nat.{◌+◌, ◌*◌, ◌≤◌, ◌<◌}
-use mathlib.Core.Path.{◌≡◌, sym, ap, ◌∙◌}
+-- The byte at a record's start is its state, 0 or 1: it counts itself.
+use Prim.Native.Nat.{ℕ, ◌+◌, ◌*◌, ◌≤◌, ◌<◌}
+use mathlib.Core.List.{List}
+use mathlib.Core.Path.{◌≡◌, sym, ap}
 use native.Mathlib.Omega.{arith}
-use lib.ListN.{length, get_or}
-use Rattle.day_file.specs.Plain.{numbered}
-use Rattle.squeeze.specs.inner.Code.{scans_in}
+use lib.ListN.{length, get_or, take}
+use Rattle.std.proofs.Common.{rules}
+use Rattle.day_file.specs.Opening.{four_at}
 use Rattle.day_file.proofs.Bytes.{Bytes}
+use Rattle.squeeze.specs.Squeeze.{live_ones}
+use Rattle.squeeze.specs.inner.Code.{scans_in, Opens}
 use Rattle.squeeze.proofs.Live.{no_live, count_more}
-use Rattle.squeeze.proofs.Walks.{small_count, in_list, start_here, state_here, inside_here, small_here}
+use Rattle.squeeze.proofs.Walks.{small_count, in_list, small_here, state_at}
 use Rattle.squeeze.proofs.count_live.Goals as goal
+
+-- n live records of the first i, and the state of the next one
+counted : (s : List ℕ) (len count t : ℕ) (y : Bytes s) (e : Opens s len count t) (i : ℕ) (h : i < count) (at : ℕ) → at ≡ four_at s (t + 4 * i)
+    → (n : ℕ) → n ≤ i → n ≡ length (live_ones (take i (scans_in s len)))
+    → (n + get_or s at 0 ≤ i + 1) × (n + get_or s at 0 ≡ length (live_ones (take (i + 1) (scans_in s len))))
+counted s len count t y e i h at p n small q =
+    let st = state_at s len count t y e i h at p in
+    let more = count_more (scans_in s len) i (in_list s len count t y e i h) (small_here s len count t y e i h) in
+    (omega (arith, st), omega (arith, st, q, more))
 
 pub loop-i-init : goal.loop-i-init
 loop-i-init c = (omega arith, omega arith, sym (ap length no_live))
 
 pub overflow_mul-i : goal.overflow_mul-i
-overflow_mul-i c =
-    let sums : let s = c.args in (s.t + 4 * s.count + 8 ≡ s.len) × (s.len ≤ 32768) × (32768 ≤ length s.file.now) = small_count c.args.file.now c.args.len c.args.count c.args.t (λ i. omega (arith, c.type_inv.file i)) c.requires in
-    omega (arith, sums)
+overflow_mul-i c = omega (arith, small_count _ _ _ _ (search rules) c.requires)
 
 pub overflow_add-t : goal.overflow_add-t
-overflow_add-t c =
-    let sums : let s = c.args in (s.t + 4 * s.count + 8 ≡ s.len) × (s.len ≤ 32768) × (32768 ≤ length s.file.now) = small_count c.args.file.now c.args.len c.args.count c.args.t (λ i. omega (arith, c.type_inv.file i)) c.requires in
-    omega (arith, sums)
+overflow_add-t c = omega (arith, small_count _ _ _ _ (search rules) c.requires)
 
 pub four_at-at-requires : goal.four_at-at-requires
-four_at-at-requires c =
-    let sums : let s = c.args in (s.t + 4 * s.count + 8 ≡ s.len) × (s.len ≤ 32768) × (32768 ≤ length s.file.now) = small_count c.args.file.now c.args.len c.args.count c.args.t (λ i. omega (arith, c.type_inv.file i)) c.requires in
-    omega (arith, sums)
+four_at-at-requires c = omega (arith, small_count _ _ _ _ (search rules) c.requires)
 
 pub bounds-file-at : goal.bounds-file-at
-bounds-file-at c =
-    let byte : let s = c.args in (c.four_at-at.result < length s.file.now) × (get_or s.file.now c.four_at-at.result 0 ≡ (numbered (scans_in s.file.now s.len) c.loop-i.i).state) × ((numbered (scans_in s.file.now s.len) c.loop-i.i).state ≤ 1) = let y : Bytes c.args.file.now = λ i. omega (arith, c.type_inv.file i) in
-    let h = c.loop-i-test.true in
-    let e = c.four_at-at.ensures.is ∙ start_here c.args.file.now c.args.len c.args.count c.args.t y c.requires c.loop-i.i h in (
-      omega (arith, e, inside_here c.args.file.now c.args.len c.args.count c.args.t y c.requires c.loop-i.i h),
-      ap (λ p. get_or c.args.file.now p 0) e ∙ state_here c.args.file.now c.args.len c.args.count c.args.t y c.requires c.loop-i.i h,
-      small_here c.args.file.now c.args.len c.args.count c.args.t y c.requires c.loop-i.i h,
-    ) in
-    omega (arith, byte)
+bounds-file-at c = (state_at _ _ _ _ (search rules) c.requires _ c.loop-i-test.true _ c.four_at-at.ensures.is).0
 
 pub overflow_add-n : goal.overflow_add-n
 overflow_add-n c =
-    let byte : let s = c.args in (c.four_at-at.result < length s.file.now) × (get_or s.file.now c.four_at-at.result 0 ≡ (numbered (scans_in s.file.now s.len) c.loop-i.i).state) × ((numbered (scans_in s.file.now s.len) c.loop-i.i).state ≤ 1) = let y : Bytes c.args.file.now = λ i. omega (arith, c.type_inv.file i) in
-    let h = c.loop-i-test.true in
-    let e = c.four_at-at.ensures.is ∙ start_here c.args.file.now c.args.len c.args.count c.args.t y c.requires c.loop-i.i h in (
-      omega (arith, e, inside_here c.args.file.now c.args.len c.args.count c.args.t y c.requires c.loop-i.i h),
-      ap (λ p. get_or c.args.file.now p 0) e ∙ state_here c.args.file.now c.args.len c.args.count c.args.t y c.requires c.loop-i.i h,
-      small_here c.args.file.now c.args.len c.args.count c.args.t y c.requires c.loop-i.i h,
-    ) in
-    let sums : let s = c.args in (s.t + 4 * s.count + 8 ≡ s.len) × (s.len ≤ 32768) × (32768 ≤ length s.file.now) = small_count c.args.file.now c.args.len c.args.count c.args.t (λ i. omega (arith, c.type_inv.file i)) c.requires in
-    omega (arith, byte, sums)
+    let state = state_at _ _ _ _ (search rules) c.requires _ c.loop-i-test.true _ c.four_at-at.ensures.is in
+    omega (arith, state, small_count _ _ _ _ (search rules) c.requires)
 
 pub loop-i-preserved : goal.loop-i-preserved
 loop-i-preserved c =
-    let byte : let s = c.args in (c.four_at-at.result < length s.file.now) × (get_or s.file.now c.four_at-at.result 0 ≡ (numbered (scans_in s.file.now s.len) c.loop-i.i).state) × ((numbered (scans_in s.file.now s.len) c.loop-i.i).state ≤ 1) = let y : Bytes c.args.file.now = λ i. omega (arith, c.type_inv.file i) in
-    let h = c.loop-i-test.true in
-    let e = c.four_at-at.ensures.is ∙ start_here c.args.file.now c.args.len c.args.count c.args.t y c.requires c.loop-i.i h in (
-      omega (arith, e, inside_here c.args.file.now c.args.len c.args.count c.args.t y c.requires c.loop-i.i h),
-      ap (λ p. get_or c.args.file.now p 0) e ∙ state_here c.args.file.now c.args.len c.args.count c.args.t y c.requires c.loop-i.i h,
-      small_here c.args.file.now c.args.len c.args.count c.args.t y c.requires c.loop-i.i h,
-    ) in
     let o = c.loop-i in
-    let y : Bytes c.args.file.now = λ i. omega (arith, c.type_inv.file i) in
-    let h = c.loop-i-test.true in
-    let w = byte in
-    let m = count_more (scans_in c.args.file.now c.args.len) o.i (in_list c.args.file.now c.args.len c.args.count c.args.t y c.requires o.i h) (small_here c.args.file.now c.args.len c.args.count c.args.t y c.requires o.i h) in
-    (omega arith, omega (arith, w), omega (arith, w, m, o.invariant.2))
+    let next = counted _ _ _ _ (search rules) c.requires _ c.loop-i-test.true _ c.four_at-at.ensures.is _ o.invariant.1 o.invariant.2 in
+    (omega arith, next.0, next.1)
