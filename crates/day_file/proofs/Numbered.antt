@@ -136,6 +136,10 @@ module _ (s : List ℕ) (len : ℕ) (rs : List Scan) (e : opened s len ≡ good 
       pub place_good : length (numbered rs k).text ≤ limit → placing s len k ≡ good (record { start = length (body (take k rs)) + 3; length = length (numbered rs k).text })
       place_good l = rw (e, lt-ltb k (length rs) h, eq-eqb (numbered rs k).state 1 g, le-leb (length (numbered rs k).text) limit l)
 
+-- the trailer's entry of a number stands in the slice
+pub entry_fits : (s : List ℕ) (len count t number : ℕ) → Known s len count t → number < count → (t + 4 * number + 4 ≤ 32768) × (32768 ≤ length s)
+entry_fits s len count t number k h = (omega (arith, h, k.trails, k.count_is, k.held.size, k.held.fits), k.held.room)
+
 -- where the trailer says that a record starts: it stands there whole, with its state and the length of its text
 pub record Starts (s : List ℕ) (rs : List Scan) (number start : ℕ) : Type 0 where
   pub low : number < length rs

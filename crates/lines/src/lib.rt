@@ -37,6 +37,7 @@ fn put_decimal(out: &mut [u8], at: usize, n: u64) -> usize
 }
 
 // What the count of a slot is called, from `at` on; where the name ends.
+#[tactic(auto, unfolding(crate::specs::Lines::name_of))]
 fn put_name(out: &mut [u8], at: usize, slot: usize) -> usize
     requires { at + length (name_of slot) ≤ length out.old }
     ensures end { result ≡ at + length (name_of slot) }

@@ -25,7 +25,7 @@ returns-then-room-m c =
     let a = c.args in
     let is = sym c.is_capacity.ensures ∙ c.if-not-is_capacity.false in
     c.refused-then-room-m.ensures
-    ∙ too_short a.n a.room is c.if-n-gt-MOST_DATA.false _ (ap (λ (k : ℕ). a.n + k) c.check_count.ensures) c.if-room-m.true
+    ∙ too_short a.n a.room is c.if-n-gt-MOST_DATA.false _ (ap (λ (k : ℕ). a.n + k) c.check_count.ensures) (omega (arith, c.if-room-m.true))
 
 pub returns : goal.returns
 returns c =

@@ -22,7 +22,7 @@ pub returns-then-len-n-gt-MOST_BYTES : goal.returns-then-len-n-gt-MOST_BYTES
 returns-then-len-n-gt-MOST_BYTES c =
     let s = c.args in
     let k = known c.args.file.now c.args.len _ _ (λ i. (c.slice_known-1.given i).fits) (sym c.in-Good.is ∙ c.open_file.ensures) in
-    let e = add_full s.file.now s.len s.text.now k.rs k.is c.if-n-gt-LIMIT.false k.held c.if-len-n-gt-MOST_BYTES.true in
+    let e = add_full s.file.now s.len s.text.now k.rs k.is c.if-n-gt-LIMIT.false k.held (omega (arith, c.if-len-n-gt-MOST_BYTES.true)) in
     record { answer = c.not_added-then-len-n-gt-MOST_BYTES.ensures ∙ sym (ap added_answer e); lent = sym (ap (λ x. slice_after x s.file.now) e) }
 
 pub put_record-requires : goal.put_record-requires

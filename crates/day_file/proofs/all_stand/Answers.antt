@@ -1,5 +1,5 @@
 use Prim.Native.Nat.{◌+◌}
-use mathlib.Core.Path.{sym, ap, ◌∙◌}
+use mathlib.Core.Path.{◌≡◌, sym, ap, ◌∙◌}
 use native.Mathlib.Omega.{arith}
 use Rattle.day_file.proofs.Walk.{stands_at, stops_short, stops_state, stops_long, stops_start, goes_further, ends}
 use Rattle.day_file.proofs.all_stand.Goals as goal
@@ -18,7 +18,7 @@ returns-then-t-at-2 c =
 
 pub returns-then-four_at-at : goal.returns-then-four_at-at
 returns-then-four_at-at c =
-    let o = c.loop-i in stops_start c.args.file.now c.args.count c.args.t c.requires o.i o.at c.loop-i-test.true c.if-t-at.false c.if-file-at-gt1.false (omega (arith, c.if-t-at-2.false, c.two_at-n.ensures.is)) (λ e. c.if-four_at-at.true (c.four_at.ensures.is ∙ e)) ∙ o.invariant.2
+    let o = c.loop-i in stops_start c.args.file.now c.args.count c.args.t c.requires o.i o.at c.loop-i-test.true c.if-t-at.false c.if-file-at-gt1.false (omega (arith, c.if-t-at-2.false, c.two_at-n.ensures.is)) (λ e. let same : c.four_at.result ≡ o.at = c.four_at.ensures.is ∙ e in absurd (omega (arith, same, c.if-four_at-at.true))) ∙ o.invariant.2
 
 pub loop-i-preserved : goal.loop-i-preserved
 loop-i-preserved c =

@@ -1,28 +1,28 @@
 -- `place` meets its contract: the trailer has the record's start, and the record its length.
 use Prim.Native.Nat.{◌+◌}
-use mathlib.Core.Path.{sym, ap, ◌∙◌}
+use mathlib.Core.Path.{◌≡◌, refl, sym, ap, ◌∙◌}
 use native.Mathlib.Omega.{arith}
-use lib.ListN.{length, take}
+use lib.ListN.{length, take, get_or}
 use Rattle.day_file.specs.File.{body}
 use Rattle.day_file.specs.Answers.{placed_answer}
 use Rattle.day_file.specs.declared.Placed.TheVariants.{At}
-use Rattle.day_file.proofs.Numbered.{known, starts_at, place_gone, place_long, place_good}
+use Rattle.day_file.proofs.Numbered.{known, entry_fits, starts_at, place_gone, place_long, place_good}
 use Rattle.day_file.proofs.place.Goals as goal
 
 pub overflow_mul-number : goal.overflow_mul-number
 overflow_mul-number c =
     let k = known c.args.file.now c.args.len _ _ (λ i. (c.type_inv.file i).fits) (sym c.in-Good.is ∙ c.open_file.ensures) in
-    omega (arith, k.trails, k.count_is, k.held.size, k.held.fits, k.held.room, c.if-count-number.false)
+    omega (arith, entry_fits _ _ _ _ c.args.number k c.if-count-number.false)
 
 pub overflow_add-t : goal.overflow_add-t
 overflow_add-t c =
     let k = known c.args.file.now c.args.len _ _ (λ i. (c.type_inv.file i).fits) (sym c.in-Good.is ∙ c.open_file.ensures) in
-    omega (arith, k.trails, k.count_is, k.held.size, k.held.fits, k.held.room, c.if-count-number.false)
+    omega (arith, entry_fits _ _ _ _ c.args.number k c.if-count-number.false)
 
 pub four_at-start-requires : goal.four_at-start-requires
 four_at-start-requires c =
     let k = known c.args.file.now c.args.len _ _ (λ i. (c.type_inv.file i).fits) (sym c.in-Good.is ∙ c.open_file.ensures) in
-    omega (arith, k.trails, k.count_is, k.held.size, k.held.fits, k.held.room, c.if-count-number.false)
+    omega (arith, entry_fits _ _ _ _ c.args.number k c.if-count-number.false)
 
 pub bounds-file-start : goal.bounds-file-start
 bounds-file-start c =
@@ -36,7 +36,7 @@ returns-then-file-start-ne1 c =
     let k = known s.file.now s.len _ _ (λ i. (c.type_inv.file i).fits) (sym c.in-Good.is ∙ c.open_file.ensures) in
     let r = starts_at s.file.now s.len _ _ s.number _ k c.if-count-number.false c.four_at-start.ensures.is in
     c.nowhere-then-file-start-ne1.ensures
-    ∙ sym (ap placed_answer (place_gone s.file.now s.len k.rs k.is s.number r.low (λ q. c.if-file-start-ne1.true (r.state ∙ q))))
+    ∙ sym (ap placed_answer (place_gone s.file.now s.len k.rs k.is s.number r.low (λ q. let one : get_or s.file.now c.four_at-start.result 0 ≡ 1 = r.state ∙ q in c.if-file-start-ne1.true (rw one refl))))
 
 pub two_at-n-requires : goal.two_at-n-requires
 two_at-n-requires c =

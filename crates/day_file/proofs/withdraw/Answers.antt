@@ -4,7 +4,7 @@ use native.Mathlib.Omega.{arith}
 use lib.ListN.{set}
 use Rattle.day_file.specs.Promise.{slice_after}
 use Rattle.day_file.specs.Answers.{withdrawn_answer}
-use Rattle.day_file.proofs.Numbered.{known, not_known, starts_at, withdrawn_is, withdraw_not, withdraw_none, withdraw_gone, withdraw_good}
+use Rattle.day_file.proofs.Numbered.{known, entry_fits, not_known, starts_at, withdrawn_is, withdraw_not, withdraw_none, withdraw_gone, withdraw_good}
 use Rattle.day_file.proofs.withdraw.Goals as goal
 
 pub returns-then-count-number : goal.returns-then-count-number
@@ -18,19 +18,19 @@ pub overflow_mul-number : goal.overflow_mul-number
 overflow_mul-number c =
     let s = c.args in
     let k = known s.file.now s.len _ _ (λ i. (c.slice_known-1.given i).fits) (sym c.in-Good.is ∙ c.open_file.ensures) in
-    omega (arith, k.trails, k.count_is, k.held.size, k.held.fits, k.held.room, c.if-count-number.false)
+    omega (arith, entry_fits _ _ _ _ c.args.number k c.if-count-number.false)
 
 pub overflow_add-t : goal.overflow_add-t
 overflow_add-t c =
     let s = c.args in
     let k = known s.file.now s.len _ _ (λ i. (c.slice_known-1.given i).fits) (sym c.in-Good.is ∙ c.open_file.ensures) in
-    omega (arith, k.trails, k.count_is, k.held.size, k.held.fits, k.held.room, c.if-count-number.false)
+    omega (arith, entry_fits _ _ _ _ c.args.number k c.if-count-number.false)
 
 pub four_at-at-requires : goal.four_at-at-requires
 four_at-at-requires c =
     let s = c.args in
     let k = known s.file.now s.len _ _ (λ i. (c.slice_known-1.given i).fits) (sym c.in-Good.is ∙ c.open_file.ensures) in
-    omega (arith, k.trails, k.count_is, k.held.size, k.held.fits, k.held.room, c.if-count-number.false)
+    omega (arith, entry_fits _ _ _ _ c.args.number k c.if-count-number.false)
 
 pub bounds-file-at : goal.bounds-file-at
 bounds-file-at c =

@@ -38,6 +38,14 @@ module _
 pub clear-requires : goal.clear-requires
 clear-requires c = omega (arith, sizes _ _ _ _ (search rules) c.requires.0 _ c.gather-to.ensures.answer _ c.requires.1, c.gather-to.auto.file)
 
+pub returns-clause-answer : goal.returns-clause-answer
+returns-clause-answer c = (sizes _ _ _ _ (search rules) c.requires.0 _ c.gather-to.ensures.answer _ c.requires.1).0
+
+pub returns-clause-lent : goal.returns-clause-lent
+returns-clause-lent c =
+    let g = c.gather-to.ensures in
+    c.put_trailer.ensures ∙ whole_is _ _ _ _ (search rules) c.requires.0 _ g.answer _ g.front g.behind c.gather-to.auto.file _ c.clear.ensures _ c.requires.1
+
 pub put_trailer-requires : goal.put_trailer-requires
 put_trailer-requires c =
     let g = c.gather-to.ensures in
@@ -51,11 +59,3 @@ overflow_add-result c = omega (arith, sizes _ _ _ _ (search rules) c.requires.0 
 
 pub overflow_add-result-2 : goal.overflow_add-result-2
 overflow_add-result-2 c = omega (arith, sizes _ _ _ _ (search rules) c.requires.0 _ c.gather-to.ensures.answer _ c.requires.1)
-
-pub returns-clause-answer : goal.returns-clause-answer
-returns-clause-answer c = (sizes _ _ _ _ (search rules) c.requires.0 _ c.gather-to.ensures.answer _ c.requires.1).0
-
-pub returns-clause-lent : goal.returns-clause-lent
-returns-clause-lent c =
-    let g = c.gather-to.ensures in
-    c.put_trailer.ensures ∙ whole_is _ _ _ _ (search rules) c.requires.0 _ g.answer _ g.front g.behind c.gather-to.auto.file _ c.clear.ensures _ c.requires.1

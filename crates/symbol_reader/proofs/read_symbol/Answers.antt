@@ -55,24 +55,6 @@ pub first_wrong_pad-wrong-requires : goal.first_wrong_pad-wrong-requires
 first_wrong_pad-wrong-requires c =
     omega (arith, capacity_most _ (sym c.is_capacity.ensures ∙ c.if-not-is_capacity.false))
 
-pub returns-then-wrong-codewords-clause-answer : goal.returns-then-wrong-codewords-clause-answer
-returns-then-wrong-codewords-clause-answer c =
-    let a = c.args in
-    let l = c.args.codewords.now in
-    let w = c.first_wrong_pad-wrong.ensures in (refused_first a.text.now
-    (ap (λ (k : ℕ). refused wrong_pad k) w
-    ∙ at_wrong_pad l (read l in_ascii limit) _ c.in-Text.is c.read_ascii-answer.ensures.says (rw w at c.if-wrong-codewords.true)
-    ∙ is_read l (length a.text.now) (sym c.is_capacity.ensures ∙ c.if-not-is_capacity.false) (omega arith))).0
-
-pub returns-then-wrong-codewords-clause-lent : goal.returns-then-wrong-codewords-clause-lent
-returns-then-wrong-codewords-clause-lent c =
-    let a = c.args in
-    let l = c.args.codewords.now in
-    let w = c.first_wrong_pad-wrong.ensures in (refused_first a.text.now
-    (ap (λ (k : ℕ). refused wrong_pad k) w
-    ∙ at_wrong_pad l (read l in_ascii limit) _ c.in-Text.is c.read_ascii-answer.ensures.says (rw w at c.if-wrong-codewords.true)
-    ∙ is_read l (length a.text.now) (sym c.is_capacity.ensures ∙ c.if-not-is_capacity.false) (omega arith))).1
-
 -- the answer does not hang on what was copied
 pub returns-clause-answer : goal.returns-clause-answer
 returns-clause-answer c =
@@ -99,3 +81,21 @@ returns-clause-lent c =
     ∙ is_read l (length a.text.now) (sym c.is_capacity.ensures ∙ c.if-not-is_capacity.false) (omega arith)))
     text_fits
     (as_copied c.read_ascii-answer.new.text a.text.now text_fits c.copy.ensures)).1
+
+pub returns-then-wrong-codewords-clause-answer : goal.returns-then-wrong-codewords-clause-answer
+returns-then-wrong-codewords-clause-answer c =
+    let a = c.args in
+    let l = c.args.codewords.now in
+    let w = c.first_wrong_pad-wrong.ensures in (refused_first a.text.now
+    (ap (λ (k : ℕ). refused wrong_pad k) w
+    ∙ at_wrong_pad l (read l in_ascii limit) _ c.in-Text.is c.read_ascii-answer.ensures.says (rw w at c.if-wrong-codewords.true)
+    ∙ is_read l (length a.text.now) (sym c.is_capacity.ensures ∙ c.if-not-is_capacity.false) (omega arith))).0
+
+pub returns-then-wrong-codewords-clause-lent : goal.returns-then-wrong-codewords-clause-lent
+returns-then-wrong-codewords-clause-lent c =
+    let a = c.args in
+    let l = c.args.codewords.now in
+    let w = c.first_wrong_pad-wrong.ensures in (refused_first a.text.now
+    (ap (λ (k : ℕ). refused wrong_pad k) w
+    ∙ at_wrong_pad l (read l in_ascii limit) _ c.in-Text.is c.read_ascii-answer.ensures.says (rw w at c.if-wrong-codewords.true)
+    ∙ is_read l (length a.text.now) (sym c.is_capacity.ensures ∙ c.if-not-is_capacity.false) (omega arith))).1

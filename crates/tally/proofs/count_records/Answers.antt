@@ -1,6 +1,6 @@
 use Prim.Native.Nat.{ℕ, ◌+◌, ◌*◌, ◌≤◌, ◌<◌}
 use mathlib.Core.List.{List}
-use mathlib.Core.Path.{◌≡◌, ap, ◌∙◌}
+use mathlib.Core.Path.{◌≡◌, refl, ap, ◌∙◌}
 use native.Mathlib.Omega.{arith}
 use lib.ListN.{length, take, drop}
 use Rattle.day_file.specs.File.{body}
@@ -50,7 +50,7 @@ returns-then-c-ne0 c =
     let t = c.loop-i.sofar in
     let w = turn s.file.now _ _ _ _ (λ i. (c.type_inv.file i).fits) c.requires.1 c.loop-i-test.true c.four_at-at.ensures.is in
     let counted = c.count_record-c.ensures ∙ ap (λ r. counted_answer (add_scan r t) t) w.is in
-    stops (scans_in s.file.now) c.loop-i.i w.low t c.count_record-c.result counted c.if-c-ne0.true s.t
+    stops (scans_in s.file.now) c.loop-i.i w.low t c.count_record-c.result counted (λ q. c.if-c-ne0.true (rw q refl)) s.t
     ∙ ap (λ x. counted_answer x s.t) c.loop-i.invariant.2
 
 pub loop-i-preserved : goal.loop-i-preserved
