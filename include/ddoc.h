@@ -2,7 +2,7 @@
  * the fields of a message and back, the fields of a message are held against the table of its type, and scans are kept in day files.
  * Nothing is kept between two calls and nothing is shared, so calls may run in several threads at once,
  * as long as each has its own output and work slice. All memory is the caller's but the stack, of which a call takes up to
- * 120 KB (ddoc_read_symbol, of codewords that change the mode at every place). The library needs memcpy and memset only. */
+ * 60 KB (ddoc_read_symbol, of codewords that change the mode at every place). The library needs memcpy, memmove and memset only. */
 #ifndef DDOC_H
 #define DDOC_H
 

@@ -1,63 +1,49 @@
--- Group by group: what one group adds, what the last one adds, and characters that are all of the alphabet. The loops of both
--- directions are one argument, over the function F that is computed in groups.
+-- Group by group: the values of one group, what the last one adds, and the whole as its groups side by side.
 -- Assumes nothing.
 use Prim.Native.Nat.{ℕ, zero, suc, ◌+◌, ◌-◌, ◌*◌, ◌/◌, ◌%◌, ◌≤◌, ◌<◌}
 use mathlib.Core.Bool.{true}
-use mathlib.Core.List.{List, [], ◌∷◌, ◌++◌, map}
+use mathlib.Core.List.{List, [], ◌∷◌, ◌++◌, map, append_assoc}
 use mathlib.Core.Path.{◌≡◌, refl, sym, ap, ◌∙◌}
+use Rattle.std.proofs.Math.Nat.{mul-zero, mul-suc}
 use native.Mathlib.Omega.{arith}
-use lib.ListN.{length, take, drop, get_or, replicate, length-append, length-drop, take-append-drop, length-map}
-use lib.Seq.{take_at, drop_at, take-add, take-length, take-append-le, drop-drop, length-take-le}
+use lib.ListN.{length, take, drop, get_or, replicate, length-append, length-drop, length-map, take-append-drop}
+use lib.Seq.{take-length, drop-drop, length-take-le}
 use borrow.Rule.Slice.PartMut.{put_mid}
+use Rattle.std.specs.List.{AllPass}
+use Rattle.std.specs.Simd.{first_chunks}
+use Rattle.std.proofs.lemmas.Slice.{take-put_mid, drop-put_mid}
+use Rattle.std.proofs.lemmas.List.Elements.{All-same, All-append, All-take, All-drop, All-replicate}
 use Rattle.refusal.specs.Over.{over}
-use Rattle.refusal.proofs.Tests.{by_test}
-use Rattle.refusal.proofs.Over.{tail_is, over_tail}
+use Rattle.refusal.specs.Chars.{chars_at}
+use Rattle.refusal.proofs.Over.{tail_is}
 use Rattle.refusal.proofs.Chars.{chars_at_law}
 use Rattle.base32.specs.Base32.{in_alphabet, value_of, char_of, bytes, values, decoded, encoded}
-use Rattle.base32.proofs.RoundTrip.{length_bytes, length_values}
-use Rattle.base32.specs.inner.Code.{leading, byte1, byte2, byte3, byte4, byte5, value2, value4, value5, value7}
+use Rattle.base32.proofs.RoundTrip.{length_bytes, length_values, byte1, byte2, byte3, byte4, byte5, value2, value4, value5, value7}
 
--- characters that are all of the alphabet
-front_in : (c : ℕ) (l : List ℕ) → leading (c ∷ l) ≡ length (c ∷ l) → (in_alphabet c ≡ true) × (leading l ≡ length l)
-unfolding leading
-front_in c l e = by_test (in_alphabet c) (suc (leading l)) 0 (suc (length l)) e (λ t q. (t, omega (arith, q))) (λ t q. absurd (omega (arith, q)))
-
-pub all_in : (l : List ℕ) → leading l ≡ length l → (i : ℕ) → i < length l → in_alphabet (get_or l i 0) ≡ true
-all_in [] e i h = absurd (omega arith)
-all_in (c ∷ l) e zero h = (front_in c l e).0
-all_in (c ∷ l) e (suc i) h = all_in l (front_in c l e).1 i (omega arith)
-
-pub all_drop : (l : List ℕ) → leading l ≡ length l → (p : ℕ) → leading (drop p l) ≡ length (drop p l)
-unfolding leading
-all_drop l e zero = e
-all_drop [] e (suc p) = refl
-all_drop (c ∷ l) e (suc p) = all_drop l (front_in c l e).1 p
-
-pub all_append : (l m : List ℕ) → leading l ≡ length l → leading m ≡ length m → leading (l ++ m) ≡ length (l ++ m)
-unfolding leading
-all_append [] m e f = f
-all_append (c ∷ l) m e f = let h = front_in c l e in rw h.0 (ap suc (all_append l m h.1 f))
+-- the elements of a list of a known length, one by one
+one_by_one : (n : ℕ) (l : List ℕ) → length l ≡ n → chars_at n 0 l ≡ l
+one_by_one n l h = sym (chars_at_law n 0 l (omega arith)) ∙ ap (λ k. take k l) (sym h) ∙ take-length l
 
 -- ONE GROUP of characters, and of bytes
-pub eight_chars : (l : List ℕ) (a b c d e f g h : ℕ) → 8 ≤ length l
+pub eight_chars : (l : List ℕ) (a b c d e f g h : ℕ) → length l ≡ 8
     → a ≡ value_of (get_or l 0 0) → b ≡ value_of (get_or l 1 0) → c ≡ value_of (get_or l 2 0) → d ≡ value_of (get_or l 3 0)
     → e ≡ value_of (get_or l 4 0) → f ≡ value_of (get_or l 5 0) → g ≡ value_of (get_or l 6 0) → h ≡ value_of (get_or l 7 0)
-    → byte1 a b ∷ byte2 b c d ∷ byte3 d e ∷ byte4 e f g ∷ byte5 g h ∷ [] ≡ decoded (take 8 l)
+    → byte1 a b ∷ byte2 b c d ∷ byte3 d e ∷ byte4 e f g ∷ byte5 g h ∷ [] ≡ decoded l
 unfolding bytes
 eight_chars l a b c d e f g h n p1 p2 p3 p4 p5 p6 p7 p8 =
     (λ i. byte1 (p1 i) (p2 i) ∷ byte2 (p2 i) (p3 i) (p4 i) ∷ byte3 (p4 i) (p5 i) ∷ byte4 (p5 i) (p6 i) (p7 i) ∷ byte5 (p7 i) (p8 i) ∷ [])
-    ∙ ap decoded (sym (chars_at_law 8 0 l n))
+    ∙ ap decoded (one_by_one 8 l n)
 
-pub five_bytes : (l : List ℕ) (r1 r2 r3 r4 r5 r6 r7 r8 : ℕ) → 5 ≤ length l
+pub five_bytes : (l : List ℕ) (r1 r2 r3 r4 r5 r6 r7 r8 : ℕ) → length l ≡ 5
     → r1 ≡ char_of (get_or l 0 0 / 8) → r2 ≡ char_of (value2 (get_or l 0 0) (get_or l 1 0)) → r3 ≡ char_of (get_or l 1 0 / 2 % 32) → r4 ≡ char_of (value4 (get_or l 1 0) (get_or l 2 0))
     → r5 ≡ char_of (value5 (get_or l 2 0) (get_or l 3 0)) → r6 ≡ char_of (get_or l 3 0 / 4 % 32) → r7 ≡ char_of (value7 (get_or l 3 0) (get_or l 4 0)) → r8 ≡ char_of (get_or l 4 0 % 32)
-    → r1 ∷ r2 ∷ r3 ∷ r4 ∷ r5 ∷ r6 ∷ r7 ∷ r8 ∷ [] ≡ encoded (take 5 l)
+    → r1 ∷ r2 ∷ r3 ∷ r4 ∷ r5 ∷ r6 ∷ r7 ∷ r8 ∷ [] ≡ encoded l
 unfolding values
 five_bytes l r1 r2 r3 r4 r5 r6 r7 r8 n p1 p2 p3 p4 p5 p6 p7 p8 =
-    (λ i. p1 i ∷ p2 i ∷ p3 i ∷ p4 i ∷ p5 i ∷ p6 i ∷ p7 i ∷ p8 i ∷ []) ∙ ap encoded (sym (chars_at_law 5 0 l n))
+    (λ i. p1 i ∷ p2 i ∷ p3 i ∷ p4 i ∷ p5 i ∷ p6 i ∷ p7 i ∷ p8 i ∷ []) ∙ ap encoded (one_by_one 5 l n)
 
 -- and then the others
-pub decoded_step : (l : List ℕ) → 8 ≤ length l → decoded l ≡ decoded (take 8 l) ++ decoded (drop 8 l)
+decoded_step : (l : List ℕ) → 8 ≤ length l → decoded l ≡ decoded (take 8 l) ++ decoded (drop 8 l)
 unfolding bytes
 decoded_step [] n = absurd (omega arith)
 decoded_step (a ∷ []) n = absurd (omega arith)
@@ -69,7 +55,7 @@ decoded_step (a ∷ b ∷ c ∷ d ∷ e ∷ f ∷ []) n = absurd (omega arith)
 decoded_step (a ∷ b ∷ c ∷ d ∷ e ∷ f ∷ g ∷ []) n = absurd (omega arith)
 decoded_step (a ∷ b ∷ c ∷ d ∷ e ∷ f ∷ g ∷ h ∷ l) n = refl
 
-pub encoded_step : (l : List ℕ) → 5 ≤ length l → encoded l ≡ encoded (take 5 l) ++ encoded (drop 5 l)
+encoded_step : (l : List ℕ) → 5 ≤ length l → encoded l ≡ encoded (take 5 l) ++ encoded (drop 5 l)
 unfolding values
 encoded_step [] n = absurd (omega arith)
 encoded_step (a ∷ []) n = absurd (omega arith)
@@ -107,70 +93,52 @@ encoded_rest (a ∷ b ∷ c ∷ []) n = refl
 encoded_rest (a ∷ b ∷ c ∷ d ∷ []) n = refl
 encoded_rest (a ∷ b ∷ c ∷ d ∷ e ∷ l) n = absurd (omega arith)
 
--- THE LAST GROUP: l over `pad` is a group, of which F gives m elements, the first k for l itself
-filled_up : (l pad : List ℕ) → take (length l) l ++ drop (length l) pad ≡ l ++ drop (length l) pad
-filled_up l pad = ap (λ x. x ++ drop (length l) pad) (take-length l)
+-- the i-th group of n
+pub group_at : (n k i : ℕ) (l d : List ℕ) → i < k → get_or (first_chunks n k l) i d ≡ take n (drop (n * i) l)
+group_at n zero i l d h = absurd (omega arith)
+group_at n (suc k) zero l d h = rw mul-zero refl
+group_at n (suc k) (suc i) l d h =
+    let e : n + n * i ≡ n * suc i = omega (arith, mul-suc n i) in
+    group_at n k i (drop n l) d (omega arith) ∙ ap (take n) (drop-drop (n * i) n l ∙ ap (λ m. drop m l) e)
 
-pub filled_length : (l pad g : List ℕ) → length l ≤ length pad → g ≡ take (length l) l ++ drop (length l) pad → length g ≡ length pad
-filled_length l pad g h q = omega (arith, ap length (q ∙ filled_up l pad), length-append l (drop (length l) pad), length-drop (length l) pad)
+-- ONE GROUP MORE of k elements, up to the place p and then up to q; and at the end the last one, filled up by some of `pad`
+module _ (F : List ℕ → List ℕ) (l done : List ℕ) (p : ℕ) (so_far : done ++ F (drop p l) ≡ F l) where
+  more : (k q : ℕ) (group y : List ℕ) → F (drop p l) ≡ F (take k (drop p l)) ++ F (drop k (drop p l)) → group ≡ take k (drop p l) → y ≡ F group → q ≡ p + k → (done ++ y) ++ F (drop q l) ≡ F l
+  more k q group y step g f e =
+      append_assoc done y (F (drop q l)) ∙ ap (λ z. done ++ z) ((λ i. (f ∙ ap F g) i ++ F (drop (e i) l)) ∙ ap (λ z. F (take k (drop p l)) ++ F z) (sym (drop-drop k p l)) ∙ sym step) ∙ so_far
 
-pub filled_in : (l pad g : List ℕ) → leading l ≡ length l → leading pad ≡ length pad → g ≡ take (length l) l ++ drop (length l) pad → leading g ≡ length g
-filled_in l pad g e f q = let is : g ≡ l ++ drop (length l) pad = q ∙ filled_up l pad in rw is (all_append l (drop (length l) pad) e (all_drop pad f (length l)))
+  last_one : (m : ℕ) (rest z y pad : List ℕ) → rest ≡ drop p l → z ≡ rest → y ≡ F (z ++ pad) → take m (F (rest ++ pad)) ≡ F rest → done ++ take m y ≡ F l
+  last_one m rest z y pad r e f part = ap (λ x. done ++ x) (ap (take m) (f ∙ ap (λ x. F (x ++ pad)) e) ∙ part ∙ ap F r) ∙ so_far
 
--- A is of the alphabet
-pub pad_in : leading (replicate 8 65) ≡ length (replicate {A = ℕ} 8 65)
-unfolding leading
-pad_in = refl
+pub decoded_more : (l done five group : List ℕ) (i : ℕ) → done ++ decoded (drop (8 * i) l) ≡ decoded l → 8 * i + 8 ≤ length l → group ≡ take 8 (drop (8 * i) l) → five ≡ decoded group → (done ++ five) ++ decoded (drop (8 * (i + 1)) l) ≡ decoded l
+decoded_more l done five group i s h g f = more decoded l done (8 * i) s 8 (8 * (i + 1)) group five (decoded_step (drop (8 * i) l) (omega (arith, length-drop (8 * i) l))) g f (omega arith)
 
-pub rest_filled : (F : List ℕ → List ℕ) (l pad blank g h out z : List ℕ) (n m k : ℕ) → g ≡ take (length l) l ++ drop (length l) pad → length g ≡ n → length (F g) ≡ m → k ≤ m
-    → h ≡ over (F (take n g)) blank → take k (F (l ++ drop (length l) pad)) ≡ F l → length (F l) ≡ k → z ≡ take k h ++ drop k out → z ≡ over (F l) out
-rest_filled F l pad blank g h out z n m k q long count less e part few last =
-    let whole : take n g ≡ g = ap (λ i. take i g) (sym long) ∙ take-length g in
-    let is : g ≡ l ++ drop (length l) pad = q ∙ filled_up l pad in
-    let front : take k h ≡ F l =
-    ap (take k) (e ∙ ap (λ x. over (F x) blank) whole) ∙ take-append-le k (F g) (drop (length (F g)) blank) (omega (arith, count)) ∙ ap (λ x. take k (F x)) is ∙ part in
-    last ∙ ap (λ x. x ++ drop k out) front ∙ ap (λ i. F l ++ drop i out) (sym few)
+pub encoded_more : (l done eight group : List ℕ) (i : ℕ) → done ++ encoded (drop (5 * i) l) ≡ encoded l → 5 * i + 5 ≤ length l → group ≡ take 5 (drop (5 * i) l) → eight ≡ encoded group → (done ++ eight) ++ encoded (drop (5 * (i + 1)) l) ≡ encoded l
+encoded_more l done eight group i s h g f = more encoded l done (5 * i) s 5 (5 * (i + 1)) group eight (encoded_step (drop (5 * i) l) (omega (arith, length-drop (5 * i) l))) g f (omega arith)
 
--- what is lent of the input from the place p on
-pub part_length : (l : List ℕ) (p : ℕ) → length (take (length l - p) (drop p l)) ≡ length l - p
-part_length l p = ap length (tail_is l p) ∙ length-drop p l
+pub decoded_last : (l done five rest z : List ℕ) (p : ℕ) → done ++ decoded (drop p l) ≡ decoded l → rest ≡ drop p l → length rest < 8 → z ≡ rest → five ≡ decoded (z ++ drop (length rest) (replicate 8 65)) → done ++ take (5 * length rest / 8) five ≡ decoded l
+decoded_last l done five rest z p s r h e f = last_one decoded l done p s (5 * length rest / 8) rest z five (drop (length rest) (replicate 8 65)) r e f (decoded_rest rest h)
 
-pub part_in : (l : List ℕ) (p : ℕ) → leading l ≡ length l → leading (take (length l - p) (drop p l)) ≡ length (take (length l - p) (drop p l))
-part_in l p e = rw (tail_is l p) (all_drop l e p)
+pub encoded_last : (l done eight rest z : List ℕ) (p : ℕ) → done ++ encoded (drop p l) ≡ encoded l → rest ≡ drop p l → length rest < 5 → z ≡ rest → eight ≡ encoded (z ++ drop (length rest) (replicate 5 0)) → done ++ take ((8 * length rest + 4) / 5) eight ≡ encoded l
+encoded_last l done eight rest z p s r h e f = last_one encoded l done p s ((8 * length rest + 4) / 5) rest z eight (drop (length rest) (replicate 5 0)) r e f (encoded_rest rest h)
 
--- of one whole group
-pub decoded_eight : (l : List ℕ) → 8 ≤ length l → length (decoded (take 8 l)) ≡ 5
-decoded_eight l h = length_decoded (take 8 l) ∙ ap (λ n. 5 * n / 8) (length-take-le 8 l h)
+-- there is room for as many bytes as are left of at most 132
+pub bytes_fit : (l done : List ℕ) (p m : ℕ) → done ++ decoded (drop p l) ≡ decoded l → length l ≤ 212 → m ≤ 5 * (length l - p) / 8 → length done + m ≤ 132
+bytes_fit l done p m w h k = omega (arith, ap length w, length-append done (decoded (drop p l)), length_decoded l, length_decoded (drop p l), length-drop p l)
 
-pub encoded_five : (l : List ℕ) → 5 ≤ length l → length (encoded (take 5 l)) ≡ 8
-encoded_five l h = length_encoded (take 5 l) ∙ ap (λ n. (8 * n + 4) / 5) (length-take-le 5 l h)
+-- a part of characters that are all of the alphabet; and filled up with A
+pub part_in : (l : List ℕ) (k p : ℕ) → AllPass in_alphabet l → AllPass in_alphabet (take k (drop p l))
+part_in l k p a = All-take (λ c. in_alphabet c ≡ true) k (drop p l) (All-drop (λ c. in_alphabet c ≡ true) p l a)
 
--- THE LOOP: up to the place p the input is done, and its q elements stand at the front of the output
-module _ (F : List ℕ → List ℕ) (input old : List ℕ) where
-  abbrev pub Filled : (p q : ℕ) → (out : List ℕ) → Type 0
-  Filled p q out = (out ≡ take q (F input) ++ drop q old) × (drop q (F input) ≡ F (drop p input))
+pub filled_in : (l rest z : List ℕ) (p : ℕ) → AllPass in_alphabet l → rest ≡ drop p l → z ≡ rest → AllPass in_alphabet (z ++ drop (length rest) (replicate 8 65))
+filled_in l rest z p a r e = All-append (λ c. in_alphabet c ≡ true) z (drop (length rest) (replicate 8 65)) (All-same (λ c. in_alphabet c ≡ true) z (drop p l) (e ∙ r) (All-drop (λ c. in_alphabet c ≡ true) p l a)) (All-drop (λ c. in_alphabet c ≡ true) (length rest) (replicate 8 65) (All-replicate (λ c. in_alphabet c ≡ true) 8 65 refl))
 
-  front_of : (p q : ℕ) (out : List ℕ) → Filled p q out → q ≤ length (F input) → out ≡ over (take q (F input)) old
-  front_of p q out s h = let l : length (take q (F input)) ≡ q = length-take-le q (F input) h in s.0 ∙ ap (λ n. take q (F input) ++ drop n old) (sym l)
+-- a piece z put into the output behind the place `at`
+pub put_behind : (out old z : List ℕ) (at n m : ℕ) → at ≤ length out → length z ≡ m → n ≡ at + m → drop at out ≡ drop at old → (take n (put_mid at m out z) ≡ take at out ++ z) × (drop n (put_mid at m out z) ≡ drop n old)
+put_behind out old z at n m h long e b =
+    let same : drop n out ≡ drop n old = ap (λ k. drop k out) e ∙ sym (drop-drop m at out) ∙ ap (drop m) b ∙ drop-drop m at old ∙ ap (λ k. drop k old) (sym e) in
+    (take-put_mid at m out z n (omega (arith, long)) h, drop-put_mid at m out z n (omega arith) h long ∙ same)
 
-  pub filled_step : (p q k m : ℕ) (out zs : List ℕ) → Filled p q out → q ≤ length (F input)
-      → F (drop p input) ≡ F (take k (drop p input)) ++ F (drop k (drop p input)) → length (F (take k (drop p input))) ≡ m
-      → zs ≡ over (F (take k (take (length input - p) (drop p input)))) (take (length out - q) (drop q out))
-      → Filled (p + k) (q + m) (put_mid q (length out - q) out zs)
-  filled_step p q k m out zs s h group long e =
-      let front : length (take q (F input)) ≡ q = length-take-le q (F input) h in
-      let one = F (take k (drop p input)) in
-      let rest = F (drop k (drop p input)) in
-      let both : drop q (F input) ≡ F (take k (drop p input)) ++ F (drop k (drop p input)) = s.1 ∙ group in
-      let new : take (q + m) (F input) ≡ take q (F input) ++ F (take k (drop p input)) = take-add q m (F input) ∙ ap (λ x. take q (F input) ++ take m x) both ∙ ap (λ x. take q (F input) ++ x) (take_at one rest m long) in
-      let count : length (take q (F input) ++ F (take k (drop p input))) ≡ q + m = omega (arith, length-append (take q (F input)) (F (take k (drop p input))), front, long) in (
-        over_tail (take q (F input)) one old out zs q front (front_of p q out s h) (e ∙ ap (λ x. over (F (take k x)) (take (length out - q) (drop q out))) (tail_is input p))
-            ∙ ap (λ n. (take q (F input) ++ F (take k (drop p input))) ++ drop n old) count ∙ ap (λ x. x ++ drop (q + m) old) (sym new),
-        sym (drop-drop m q (F input)) ∙ ap (drop m) both ∙ drop_at one rest m long ∙ ap F (drop-drop k p input),
-      )
-
-  pub filled_whole : (p q : ℕ) (out zs : List ℕ) → Filled p q out → q ≤ length (F input)
-      → zs ≡ over (F (take (length input - p) (drop p input))) (take (length out - q) (drop q out)) → put_mid q (length out - q) out zs ≡ over (F input) old
-  filled_whole p q out zs s h e =
-      over_tail (take q (F input)) (F (drop p input)) old out zs q (length-take-le q (F input) h) (front_of p q out s h) (e ∙ ap (λ x. over (F x) (take (length out - q) (drop q out))) (tail_is input p))
-      ∙ ap (λ x. over x old) (ap (λ x. take q (F input) ++ x) (sym s.1) ∙ take-append-drop q (F input))
+pub written_over : (l out old : List ℕ) (at : ℕ) → at ≤ length out → take at out ≡ encoded l → drop at out ≡ drop at old → out ≡ over (encoded l) old
+written_over l out old at h front b =
+    sym (take-append-drop at out) ∙ (λ i. front i ++ b i) ∙ ap (λ k. encoded l ++ drop k old) (sym (length-take-le at out h) ∙ ap length front)

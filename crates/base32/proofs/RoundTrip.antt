@@ -11,7 +11,35 @@ use lib.ListN.{length}
 use borrow.Author.Tests.{leb-true, le-leb, lt-leb, ltb-true, ltb-false, lt-ltb, le-ltb}
 use Rattle.refusal.proofs.Binds.{by_and, by_or}
 use Rattle.base32.specs.Base32.{in_alphabet, value_of, char_of, bytes, values, Below}
-use Rattle.base32.specs.inner.Code.{spare, byte1, byte2, byte3, byte4, byte5, value2, value4, value5, value7}
+use Rattle.base32.specs.inner.Code.{spare}
+
+-- the bytes of a group, and its values, one by one
+abbrev pub byte1 : (a b : ℕ) → ℕ
+byte1 a b = 8 * a + b / 4
+
+abbrev pub byte2 : (b c d : ℕ) → ℕ
+byte2 b c d = 64 * (b % 4) + 2 * c + d / 16
+
+abbrev pub byte3 : (d e : ℕ) → ℕ
+byte3 d e = 16 * (d % 16) + e / 2
+
+abbrev pub byte4 : (e f g : ℕ) → ℕ
+byte4 e f g = 128 * (e % 2) + 4 * f + g / 8
+
+abbrev pub byte5 : (g h : ℕ) → ℕ
+byte5 g h = 32 * (g % 8) + h
+
+abbrev pub value2 : (a b : ℕ) → ℕ
+value2 a b = 4 * (a % 8) + b / 64
+
+abbrev pub value4 : (b c : ℕ) → ℕ
+value4 b c = 16 * (b % 2) + c / 16
+
+abbrev pub value5 : (c d : ℕ) → ℕ
+value5 c d = 2 * (c % 16) + d / 128
+
+abbrev pub value7 : (d e : ℕ) → ℕ
+value7 d e = 8 * (d % 4) + e / 32
 
 -- eight values, from their bytes
 v1 : (a b : ℕ) → b < 32 → byte1 a b / 8 ≡ a

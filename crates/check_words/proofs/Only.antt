@@ -6,6 +6,7 @@ use lib.ListN.{length, length-append}
 use mathlib.Core.List.{List, [], ◌++◌, ◌∷◌}
 use mathlib.Core.Path.{◌∙◌, ◌≡◌, ap, ap₂, refl, sym}
 use native.Mathlib.Omega.{arith}
+use Rattle.std.proofs.lemmas.List.{append_cancel_left}
 use Rattle.galois.proofs.Sums.{⊕-self}
 use Rattle.galois.proofs.Values.{bytes_append, bytes_plus, length_plus, value_plus}
 use Rattle.galois.proofs.Vandermonde.{nothing_same, right_nothing}
@@ -29,10 +30,6 @@ unfolding weight plus
 weight_same [] a b = refl
 weight_same (d ∷ ds) a b = ap₂ ◌+◌ (ap one (⊕-self d)) (weight_same ds a b) ∙ (let z : 0 + weight (plus a b) ≡ weight (plus a b) = omega arith in z)
 
-same_end : (ds a b : List ℕ) → ds ++ a ≡ ds ++ b → a ≡ b
-same_end [] a b e = e
-same_end (d ∷ ds) a b e = same_end ds a b (cc)
-
 pub check_only : (k : ℕ) (ds c : List ℕ) → length ds + k ≤ 255 → Bytes ds → Bytes c → length c ≡ k → Right k (ds ++ c) → c ≡ check_words k ds
 check_only k ds c few bd bc l r =
     let g : List ℕ = check_words k ds in
@@ -41,7 +38,7 @@ check_only k ds c few bd bc l r =
     let a : List ℕ = ds ++ c in
     let b : List ℕ = ds ++ g in
     let ab : length a ≡ length b = omega (arith, length-append ds c, length-append ds g) in
-    same_end ds c g
+    append_cancel_left ds c g
     (nothing_same a b ab
     (right_nothing k (plus a b) (omega (arith, length_plus a b ab, length-append ds g)) (bytes_plus a b (bytes_append ds c bd bc) (bytes_append ds g bd (bytes_check k ds)))
     (λ j h m. value_plus (pow j) a b ab ∙ ap₂ ◌⊕◌ (r j h m) (check_right k ds bd j h m) ∙ ⊕-self 0)

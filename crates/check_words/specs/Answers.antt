@@ -1,13 +1,14 @@
 -- What printing the check words answers, and what it leaves in the lent list: document 02, K3.
 use Rattle.std.specs.Prelude.{ℕ, ◌+◌, List, ◌++◌, ◌≡◌, leb, length}
 use Rattle.refusal.specs.Answers.{Answer, good, refused, ◌>>◌, check}
-use Rattle.refusal.specs.Numbers.{refusal, count_no_capacity, lent_too_short, several_blocks}
+use Rattle.std.specs.declared.result.Result.{Result}
+use Rattle.refusal.specs.declared.Refusal.{Refusal}
+use Rattle.refusal.specs.Said.{says}
+use Rattle.refusal.specs.Numbers.{count_no_capacity, lent_too_short, several_blocks}
 use Rattle.refusal.specs.Over.{over}
 use Rattle.codeword.specs.Sizes.{is_capacity}
 use Rattle.galois.specs.Polynomial.{Right, Bytes}
 use Rattle.check_words.specs.Sizes.{most_data, check_count}
-use Rattle.check_words.specs.declared.Listing.{Listing}
-use Rattle.check_words.specs.declared.Listing.TheVariants.{Words, Refused}
 
 -- the words of the list, data and check words, for n data codewords and so much room
 unfoldable pub words_of : (n room : ℕ) → Answer ℕ
@@ -16,10 +17,6 @@ words_of n room = do
   check (leb n most_data) several_blocks 0
   check (leb (n + check_count n) room) lent_too_short 0
   good (n + check_count n)
-
-abbrev pub answered : Answer ℕ → Listing
-answered (good m) = Words m
-answered (refused k p) = Refused (refusal k p)
 
 -- the list is the data and behind them k check words, with which it is right; what lies behind it is as it was
 pub record Listed (k : ℕ) (ds old new : List ℕ) : Type 0 where
@@ -35,5 +32,5 @@ Left (good m) ds old new = Listed (check_count (length ds)) ds old new
 Left (refused k p) ds old new = new ≡ old
 
 -- what printing promises, of its answer and of the lent list
-abbrev pub Promised : (ds old new : List ℕ) → Listing → Type 0
-Promised ds old new r = (r ≡ answered (words_of (length ds) (length old))) × Left (words_of (length ds) (length old)) ds old new
+abbrev pub Promised : (ds old new : List ℕ) → Result ℕ Refusal → Type 0
+Promised ds old new r = (says r ≡ words_of (length ds) (length old)) × Left (words_of (length ds) (length old)) ds old new

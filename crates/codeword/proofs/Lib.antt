@@ -1,5 +1,4 @@
 -- What several proofs use.
 pub mod Sizes
 pub mod Characters
-pub mod Ranges
 pub mod Pads

@@ -1,26 +1,20 @@
 -- The pads: `first_wrong` is the index of the first wrong pad, and the count of the codewords (or the index of the first pad, if that is
 -- more) where none is wrong. And what checking them makes of a reading.
 -- Assumes nothing.
-use Prim.Native.Nat.{ℕ, zero, suc, ◌+◌, ◌-◌, ◌≤◌, ◌<◌}
+use Prim.Native.Nat.{ℕ, suc, ◌+◌, ◌-◌, ◌≤◌, ◌<◌}
 use mathlib.Core.Bool.{Bool, true, false}
 use mathlib.Core.List.{List, [], ◌∷◌}
 use mathlib.Core.Path.{◌≡◌, refl, sym, ap, subst, ◌∙◌}
 use native.Mathlib.Omega.{arith}
 use lib.Dec.{ltb, eqb}
 use lib.ListN.{length, drop, get_or, length-drop}
-use lib.Seq.{drop-cons, get_or-drop}
-use borrow.Author.Tests.{ltb-true, ltb-false, lt-ltb, le-ltb, eqb-true, eqb-false, eq-eqb, ne_eqb}
+use lib.Seq.{get_or-drop}
+use borrow.Author.Tests.{ltb-true, ltb-false, le-ltb, eqb-true, eqb-false}
 use Rattle.refusal.specs.Pick.{pick}
 use Rattle.refusal.specs.Numbers.{wrong_pad}
 use Rattle.refusal.proofs.Tests.{clash}
 use Rattle.codeword.specs.Pads.{pad_at, wrong_from, first_wrong}
 use Rattle.codeword.specs.Reading.{Reading, good, refused, checked}
-
-drop_past : (ws : List ℕ) (i : ℕ) → length ws ≤ i → drop i ws ≡ []
-drop_past [] zero h = refl
-drop_past [] (suc i) h = refl
-drop_past (w ∷ ws) zero h = absurd (omega arith)
-drop_past (w ∷ ws) (suc i) h = drop_past ws i (omega arith)
 
 -- THE FIRST WRONG PAD
 pub record First (n i : ℕ) (ws : List ℕ) (p : ℕ) : Type 0 where
@@ -62,20 +56,6 @@ first n i (w ∷ ws) = go (eqb w (pad_at n i)) refl (first n (suc i) ws)
             let z : j - i ≡ suc (j - suc i) = omega arith in
             rw z (F.right j (omega arith) g)
 
--- one codeword further on
-module _ (n i : ℕ) (ws : List ℕ) where
-  pub wrong_here : i < length ws → (get_or ws i 0 ≡ pad_at n i → ⊥) → wrong_from n i (drop i ws) ≡ i
-  unfolding wrong_from
-  wrong_here h e = rw (drop-cons ws i 0 h) (simp (ne_eqb (get_or ws i 0) (pad_at n i) e))
-
-  pub right_here : i < length ws → get_or ws i 0 ≡ pad_at n i → wrong_from n i (drop i ws) ≡ wrong_from n (suc i) (drop (suc i) ws)
-  unfolding wrong_from
-  right_here h e = ap (wrong_from n i) (drop-cons ws i 0 h) ∙ simp (eq-eqb (get_or ws i 0) (pad_at n i) e)
-
-  pub none_wrong : length ws ≤ i → wrong_from n i (drop i ws) ≡ i
-  unfolding wrong_from
-  none_wrong h = let z : drop i ws ≡ [] = drop_past ws i h in rw z
-
 pub record FirstWrong (n : ℕ) (ws : List ℕ) (p : ℕ) : Type 0 where
   pub low : n ≤ p
   pub high : n ≤ length ws → p ≤ length ws
@@ -106,9 +86,6 @@ all_right n ws h = go (first_wrong_law n ws) (ltb (first_wrong n ws) (length ws)
     go F true e = absurd (F.wrong (ltb-true _ _ e) (h (first_wrong n ws) F.low (ltb-true _ _ e)))
     go F false e = ltb-false _ _ e
 
-pub right_all : (n : ℕ) (ws : List ℕ) → length ws ≤ first_wrong n ws → (i : ℕ) → n ≤ i → i < length ws → get_or ws i 0 ≡ pad_at n i
-right_all n ws h i g l = (first_wrong_law n ws).right i g (omega arith)
-
 -- CHECKING THEM
 pub from_checked :
     (ws : List ℕ) (o : Reading) (t : List ℕ) (n : ℕ) (b : Bool) → checked ws o ≡ good t n b → (o ≡ good t n b) × (length ws ≤ first_wrong n ws)
@@ -123,8 +100,3 @@ from_checked ws (good t' n' b') t n b e = go (ltb (first_wrong n' ws) (length ws
 
 pub right_checked : (ws : List ℕ) {o : Reading} {t : List ℕ} {n : ℕ} {b : Bool} → o ≡ good t n b → length ws ≤ first_wrong n ws → checked ws o ≡ good t n b
 right_checked ws {n = n} e h = ap (checked ws) e ∙ simp (le-ltb (first_wrong n ws) (length ws) h)
-
-pub wrong_checked :
-    (ws : List ℕ) {o : Reading} {t : List ℕ} {n : ℕ} {b : Bool} → o ≡ good t n b → first_wrong n ws < length ws →
-    checked ws o ≡ refused wrong_pad (first_wrong n ws)
-wrong_checked ws {n = n} e h = ap (checked ws) e ∙ simp (lt-ltb (first_wrong n ws) (length ws) h)

@@ -1,5 +1,5 @@
--- What codewords and values mean: document 01, "From codewords to text". The answers are the code's own enums.
-use Rattle.std.specs.Prelude.{ℕ, ◌+◌, ◌-◌, ◌*◌, ◌/◌, ◌%◌, Bool, true, false, ltb, leb, eqb}
+-- What codewords and values mean: document 01, "From codewords to text". The answers are the code's own types.
+use Rattle.std.specs.Prelude.{ℕ, ◌+◌, ◌-◌, ◌*◌, ◌/◌, ◌%◌, Bool, true, false, ltb, leb, eqb, Option, Some, None}
 use Rattle.refusal.specs.Pick.{pick}
 use Rattle.codeword.specs.declared.Set.{Set}
 use Rattle.codeword.specs.declared.Set.TheVariants.{Basic, Set1, Set2, Set3}
@@ -9,8 +9,6 @@ use Rattle.codeword.specs.declared.Ascii.{Ascii}
 use Rattle.codeword.specs.declared.Ascii.TheVariants.{One, Two, Latch, Pad, Wrong}
 use Rattle.codeword.specs.declared.Lone.{Lone}
 use Rattle.codeword.specs.declared.Lone.TheVariants.{Ends, Last, Bad}
-use Rattle.codeword.specs.declared.Pair.{Pair}
-use Rattle.codeword.specs.declared.Pair.TheVariants.{Three, Outside}
 
 -- ASCII mode: 1 to 128 is character codeword minus 1; 130 to 229 is two digits, codeword minus 130; 230 latches to C40;
 -- 129 ends the text. 0 and 231 to 255 are refused.
@@ -26,12 +24,12 @@ unfoldable pub lone : ℕ → Lone
 lone w = pick (eqb w 254) Ends (pick (eqb w 0) Bad (pick (leb w 128) (Last (w - 1)) Bad))
 
 -- C40 mode, two or more left: v = 256a + b - 1, which must be 0 to 63,999. Values: v / 1600, then v / 40 mod 40, then v mod 40.
-unfoldable pub pair : (a b : ℕ) → Pair
+unfoldable pub pair : (a b : ℕ) → Option (ℕ × ℕ × ℕ)
 pair a b =
-    pick (eqb (256 * a + b) 0) Outside
+    pick (eqb (256 * a + b) 0) None
     (pick (leb (256 * a + b) 64000)
-    (Three ((256 * a + b - 1) / 1600) ((256 * a + b - 1) / 40 % 40) ((256 * a + b - 1) % 40))
-    Outside)
+    (Some ((256 * a + b - 1) / 1600, (256 * a + b - 1) / 40 % 40, (256 * a + b - 1) % 40))
+    None)
 
 -- Basic set: 0, 1, 2 shift the next value to set 1, 2, 3; 3 is the space; 4 to 13 are 0 to 9; 14 to 39 are A to Z.
 -- Set 1: 0 to 31 are characters 0 to 31. Set 2: 0 to 14 are 33 to 47, 15 to 21 are 58 to 64, 22 to 26 are 91 to 95.

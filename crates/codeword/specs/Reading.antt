@@ -1,5 +1,5 @@
 -- The reading of a symbol: document 01, "From codewords to text", with the numbers and the places of its refusals.
-use Rattle.std.specs.Prelude.{ℕ, zero, suc, Bool, true, false, List, [], ◌∷◌, ltb, leb, eqb, length}
+use Rattle.std.specs.Prelude.{ℕ, zero, suc, Bool, true, false, List, [], ◌∷◌, ltb, leb, eqb, length, Option, Some, None}
 use Rattle.refusal.specs.Limits.{limit}
 use Rattle.refusal.specs.Pick.{pick}
 use Rattle.refusal.specs.Numbers.{count_no_capacity, forbidden_codeword, pair_outside, wrong_value, text_too_long, lent_too_short, wrong_pad}
@@ -11,8 +11,6 @@ use Rattle.codeword.specs.declared.Ascii.{Ascii}
 use Rattle.codeword.specs.declared.Ascii.TheVariants.{One, Two, Latch, Pad, Wrong}
 use Rattle.codeword.specs.declared.Lone.{Lone}
 use Rattle.codeword.specs.declared.Lone.TheVariants.{Ends, Last, Bad}
-use Rattle.codeword.specs.declared.Pair.{Pair}
-use Rattle.codeword.specs.declared.Pair.TheVariants.{Three, Outside}
 use Rattle.codeword.specs.Meanings.{ascii, lone, pair, value, unfinished}
 use Rattle.codeword.specs.Sizes.{is_capacity}
 use Rattle.codeword.specs.Pads.{first_wrong}
@@ -79,10 +77,10 @@ on_lone (Last c) = give c (end 1 false)
 on_lone Bad = refuse forbidden_codeword
 
 -- a pair in C40 mode and the set of its first value: three values, and the rest stands two codewords further on; or a refusal
-abbrev pub on_pair : Pair → Set → (Set → Step) → Step
-on_pair (Three x y z) s rest =
+abbrev pub on_pair : Option (ℕ × ℕ × ℕ) → Set → (Set → Step) → Step
+on_pair (Some (x, y, z)) s rest =
     put (value s x) (λ s₁. put (value s₁ y) (λ s₂. put (value s₂ z) (λ s₃. behind (behind (rest s₃)))))
-on_pair Outside s rest = refuse pair_outside
+on_pair None s rest = refuse pair_outside
 
 pub data Mode : Type 0 where
   in_ascii : Mode

@@ -1,5 +1,4 @@
 pub mod Marks
-pub mod Lengths
-pub mod Steps
-pub mod Listed
+pub mod There
+pub mod Whole
 pub mod One

@@ -1,47 +1,57 @@
--- The code's tables: the number n of a column is the mark of the row n, and 0 behind the last row and in what is no column.
+-- The code's table gives each row's mark in each column.
 -- Assumes nothing.
-use Prim.Native.Nat.{ℕ, zero, suc, ◌+◌, ◌≤◌, ◌<◌}
-use mathlib.Core.Bool.{Bool, true, false}
-use mathlib.Core.List.{◌∷◌}
-use mathlib.Core.Path.{◌≡◌, refl, ap, ◌∙◌}
+use Prim.Native.Nat.{ℕ, zero, suc, ◌+◌, ◌≤◌}
+use mathlib.Core.List.{List, map}
+use mathlib.Core.Bool.{false}
+use mathlib.Core.Path.{◌≡◌, refl, ap, sym, ◌∙◌}
 use native.Mathlib.Omega.{arith}
 use lib.Dec.{ltb}
-use lib.ListN.{length, get_or, replicate, get_or-eq_default}
-use borrow.Author.Tests.{ltb-true, ltb-false}
-use Rattle.refusal.specs.Pick.{pick}
+use lib.ListN.{get_or-map}
+use borrow.Author.Tests.{le-ltb}
+use Rattle.std.specs.Option.{option_map}
+use Rattle.std.specs.Prelude.{Option, Some, None, slice_get, get_or}
+use Rattle.std.proofs.lemmas.Option.{none-some, same_Some, slice_get-map}
 use Rattle.dictionary.specs.Rows.{row_count}
-use Rattle.conformity.specs.Tables.{Mark, no, tables}
+use Rattle.conformity.specs.declared.Column.{Column}
+use Rattle.conformity.specs.declared.Column.TheVariants.{Home00, Home01, Home02, SchoolB0, SchoolB1}
+use Rattle.conformity.specs.declared.Mark.{Mark as CodeMark}
+use Rattle.conformity.specs.declared.Mark.TheVariants.{NotPermitted}
+use Rattle.conformity.specs.Tables.{Mark, no, Table, tables}
 use Rattle.conformity.specs.Conformity.{mark_of}
-use Rattle.conformity.specs.inner.Noted.{code_of, marks_of, none, table_at}
+use Rattle.conformity.specs.inner.Code.{column_number, table_of_column, mark_says, marks_of}
 
-module _ (k : ℕ) where
-  long : (left n : ℕ) → length (marks_of k left n) ≡ left
-  unfolding marks_of
-  long zero n = refl
-  long (suc left) n = ap suc (long left (suc n))
+abbrev row_marks : (n : ℕ) → List Mark
+row_marks n = map (λ (t : Table). mark_of t n) tables
 
-  from : (left n i : ℕ) → i < left → get_or (marks_of k left n) i 0 ≡ code_of k (n + i)
-  unfolding marks_of
-  from zero n i h = absurd (omega arith)
-  from (suc left) n zero h = ap (code_of k) (omega arith)
-  from (suc left) n (suc i) h = from left (suc n) i (omega arith) ∙ ap (code_of k) (omega arith)
+in_column : (c : Column) (n : ℕ) → get_or (row_marks n) (column_number c) no ≡ mark_of (table_of_column c) n
+in_column Home00 n = refl
+in_column Home01 n = refl
+in_column Home02 n = refl
+in_column SchoolB0 n = refl
+in_column SchoolB1 n = refl
 
-  at : (n : ℕ) (b : Bool) → ltb n 110 ≡ b → get_or (marks_of k row_count 0) n 0 ≡ code_of k n
+row_there : (left k n m : ℕ) (ms : List Mark) → m ≡ k + n → slice_get (marks_of left k) n ≡ Some ms → ms ≡ row_marks m
+unfolding marks_of
+row_there zero k n m ms h e = absurd (none-some ms e)
+row_there (suc left) k zero m ms h e = sym (same_Some (row_marks k) ms e) ∙ ap row_marks (omega arith)
+row_there (suc left) k (suc n) m ms h e = row_there left (suc k) n m ms (omega arith) e
+
+row_past : (left k n : ℕ) → slice_get (marks_of left k) n ≡ None → left ≤ n
+unfolding marks_of
+row_past zero k n e = omega arith
+row_past (suc left) k zero e = absurd (none-some (row_marks k) (sym e))
+row_past (suc left) k (suc n) e = omega (arith, row_past left (suc k) n e)
+
+module _ (xs : List (List CodeMark)) (right : map (map mark_says) xs ≡ marks_of row_count 0) (c : Column) (n : ℕ) where
+  got : (o : Option (List CodeMark)) → slice_get xs n ≡ o → slice_get (marks_of row_count 0) n ≡ option_map (map mark_says) o
+  got o e = ap (λ (l : List (List Mark)). slice_get l n) (sym right) ∙ slice_get-map (map mark_says) xs n ∙ ap (option_map (map mark_says)) e
+
+  pub mark_there : (ms : List CodeMark) → slice_get xs n ≡ Some ms → mark_says (get_or ms (column_number c) NotPermitted) ≡ mark_of (table_of_column c) n
+  mark_there ms e =
+      sym (get_or-map mark_says ms (column_number c) NotPermitted)
+      ∙ ap (λ (l : List Mark). get_or l (column_number c) no) (row_there row_count 0 n n (map mark_says ms) (omega arith) (got (Some ms) e))
+      ∙ in_column c n
+
+  pub mark_past : slice_get xs n ≡ None → no ≡ mark_of (table_of_column c) n
   unfolding mark_of
-  at n true e = let z : 0 + n ≡ n = omega arith in from 110 0 n (ltb-true n 110 e) ∙ ap (code_of k) z
-  at n false e = let h : length (marks_of k 110 0) ≤ n = omega (arith, ltb-false n 110 e, long 110 0) in rw e (get_or-eq_default (marks_of k 110 0) 0 h)
-
-  pub mark_at_law : (n : ℕ) → get_or (marks_of k row_count 0) n 0 ≡ code_of k n
-  mark_at_law n = at n (ltb n 110) refl
-
--- what is no column
-either_way : (t : Bool) (m : Mark) → pick t m m ≡ m
-either_way true m = refl
-either_way false m = refl
-
-pub no_marks : (k : ℕ) → 5 ≤ k → (left n : ℕ) → replicate left 0 ≡ marks_of k left n
-unfolding marks_of table_at mark_of
-no_marks k h zero n = refl
-no_marks k h (suc left) n =
-    let e : table_at k ≡ none = get_or-eq_default tables none h in
-    rw (e, either_way (ltb n 110) no) (ap (λ l. 0 ∷ l) (no_marks k h left (suc n)))
+  mark_past e = let past : ltb n row_count ≡ false = le-ltb n row_count (row_past row_count 0 n (got None e)) in rw past refl

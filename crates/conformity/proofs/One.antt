@@ -1,11 +1,12 @@
--- What conformity promises is an equation, so it leaves one answer.
--- Assumes nothing.
-use Prim.Native.Nat.{ℕ}
-use mathlib.Core.List.{List}
+-- The promise of `conforms` has one answer.
 use mathlib.Core.Path.{◌≡◌, sym, ◌∙◌}
+use mathlib.Core.List.{List}
+use Prim.Native.Nat.{ℕ}
+use Rattle.std.specs.declared.result.Result.{Result}
+use Rattle.refusal.specs.declared.Refusal.{Refusal}
+use Rattle.refusal.proofs.Said.{says_one}
 use Rattle.dictionary.specs.declared.Field.{Field}
-use Rattle.conformity.specs.declared.Conformity.{Conformity}
 use Rattle.conformity.specs.Conformity.{ConformityPromised}
 
-pub only_one : (a b : ℕ) (fs : List Field) (r r' : Conformity) → ConformityPromised a b fs r → ConformityPromised a b fs r' → r ≡ r'
-only_one a b fs r r' p q = p ∙ sym q
+pub only_one : (a b : ℕ) (fs : List Field) (r s : Result (Unit {0}) Refusal) → ConformityPromised a b fs r → ConformityPromised a b fs s → r ≡ s
+only_one a b fs r s h k = says_one r s (h ∙ sym k)

@@ -1,14 +1,15 @@
 -- Conformity of a message's fields to the table of its type (document 01, "Conformity").
+use Rattle.std.specs.declared.result.Result.{Result}
 use Rattle.std.specs.Prelude.{ℕ, zero, suc, Bool, true, false, not, ◌&&◌, ◌||◌, List, [], ◌∷◌, ◌≡◌, ltb, eqb, get_or}
 use Rattle.refusal.specs.Pick.{pick}
 use Rattle.refusal.specs.Answers.{Answer, good, refused, ◌>>◌, ◌>>=◌, check}
-use Rattle.refusal.specs.Numbers.{type_not_covered, identifier_missing, identifier_not_permitted, refusal}
+use Rattle.refusal.specs.Numbers.{type_not_covered, identifier_missing, identifier_not_permitted}
+use Rattle.refusal.specs.declared.Refusal.{Refusal}
+use Rattle.refusal.specs.Said.{says}
 use Rattle.refusal.specs.Among.{among}
 use Rattle.dictionary.specs.declared.Field.{Field}
 use Rattle.dictionary.specs.Dictionary.{rows_of}
 use Rattle.dictionary.specs.Rows.{row_count}
-use Rattle.conformity.specs.declared.Conformity.{Conformity}
-use Rattle.conformity.specs.declared.Conformity.TheVariants.{Conforms, Refused}
 use Rattle.conformity.specs.Tables.{Mark, O, F, no, Line, Exchange, Section, Table, tables}
 use Rattle.refusal.specs.Classes.{between}
 
@@ -83,11 +84,6 @@ conforms a b fs = do
   complete t (λ n. among n (rows_of fs)) row_count 0
   only_permitted t 0 fs
 
--- the answer as the code gives it
-abbrev pub conformity_of : Answer (Unit {0}) → Conformity
-conformity_of (good x) = Conforms
-conformity_of (refused k p) = Refused (refusal k p)
-
--- WHAT `conforms` AND `conforms_list` PROMISE of the fields that they are given
-abbrev pub ConformityPromised : (type0 type1 : ℕ) → List Field → Conformity → Type 0
-ConformityPromised a b fs r = r ≡ conformity_of (conforms a b fs)
+-- WHAT `conforms` PROMISES of the fields that it is given
+abbrev pub ConformityPromised : (type0 type1 : ℕ) → List Field → Result (Unit {0}) Refusal → Type 0
+ConformityPromised a b fs r = says r ≡ conforms a b fs

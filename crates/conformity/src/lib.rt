@@ -1,246 +1,172 @@
 // Conformity: which identifiers a type of document must have, may have and must not have (source document 001, sections 8.1 and 8.7).
-// A list is gone through record by record over a small state, so that a list of any length can be looked at.
 
 #![tactic(auto)]
 
 mod table;
 
-ghost use Rattle.std.specs.Prelude.{◌≡◌, [], ◌∷◌, ◌<◌, take};
+ghost use Rattle.std.specs.Prelude.{◌≡◌, ◌<◌, ◌&&◌, ℕ, length, get_or, map, position};
+ghost use Rattle.std.specs.List.{find, range_with_len};
+ghost use Rattle.refusal.specs.Among.{among};
+ghost use Rattle.dictionary.specs.Dictionary.{rows_of as rows_named};
 ghost use Rattle.dictionary.specs.Rows.{row_count};
-ghost use Rattle.conformity.specs.Tables.{footnote_star, footnote_6};
-ghost use Rattle.conformity.specs.Conformity.{column_of, replaced, ConformityPromised};
-ghost use Rattle.conformity.specs.inner.Noted.{marks_of, begun, wrong_at, noted, is_there, missing_says, none_missing, decided, table_at};
+ghost use Rattle.conformity.specs.Conformity.{column_of, mark_of, permitted, replaced, ConformityPromised};
+ghost use Rattle.conformity.specs.inner.Code.{column_number, column_says, marks_of, table_of_column, mark_says, is_lacking, is_barred, there_in};
 
-use dictionary::{Field, Fields, ROW_COUNT};
-use refusal::Refusal;
+use dictionary::{Field, ROW_COUNT};
+use refusal::{Reason, Refusal};
 
-#[derive(Clone, Copy)]
-pub enum Conformity {
-    Conforms,
-    Refused(Refusal),
+// The columns of the tables: the types covered.
+#[derive(Clone, Copy, Debug, PartialEq, Eq)]
+pub enum Column {
+    Home00,
+    Home01,
+    Home02,
+    SchoolB0,
+    SchoolB1,
 }
 
-// What is kept of the fields so far: the column of their type, of each row its mark, and the place of the first field that is not permitted.
-#[derive(Clone, Copy)]
-pub struct Seen {
-    pub column: usize,
-    pub rows: [u8; ROW_COUNT],
-    pub wrong: bool,
-    pub place: usize,
+const COLUMN_COUNT: usize = 5;
+
+// What a table says of a row.
+#[derive(Clone, Copy, Debug, PartialEq, Eq)]
+enum Mark {
+    NotPermitted,
+    Permitted,
+    Mandatory,
 }
 
-// A mark as the tables have it; a mandatory row is missing until a field names it.
-const NOT_PERMITTED: u8 = 0;
+// The rows that footnotes exchange.
+const ROW_10: usize = 13;
 
-const MISSING: u8 = 2;
+const ROW_11: usize = 14;
 
-const THERE: u8 = 3;
+const ROW_12: usize = 15;
 
-// The types covered, numbered: 00, 01, 02, B0, B1; 5 for any other.
+const ROW_13: usize = 16;
+
+const ROW_B0: usize = 89;
+
+const ROW_B1: usize = 90;
+
+// The column of a type, if it is covered.
 #[tactic(auto, unfolding(crate::specs::Conformity::column_of))]
-pub fn column_of(a: u8, b: u8) -> usize
-    ensures { result ≡ column_of a b }
+pub fn column_of(type0: u8, type1: u8) -> Option<Column>
+    ensures { column_says result ≡ column_of type0 type1 }
 {
-    if a == 48 {
-        if b == 48 {
-            return 0;
+    match (type0, type1) {
+        (b'0', b'0') => Some(Column::Home00),
+        (b'0', b'1') => Some(Column::Home01),
+        (b'0', b'2') => Some(Column::Home02),
+        (b'B', b'0') => Some(Column::SchoolB0),
+        (b'B', b'1') => Some(Column::SchoolB1),
+        _ => None,
+    }
+}
+
+// The marks of every row, in every column.
+#[tactic(auto, unfolding(crate::specs::inner::Code::marks_of, crate::specs::Conformity::mark_of, crate::specs::Tables::domicile, crate::specs::Tables::academic, crate::specs::Tables::row_of, dictionary::specs::Dictionary::find, dictionary::specs::Rows::rows))]
+fn all_marks() -> &'static [[Mark; COLUMN_COUNT]; ROW_COUNT]
+    ensures { map (map mark_says) result.now ≡ marks_of row_count 0 }
+{
+    &table::MARKS
+}
+
+impl Column {
+    // Its place among the columns.
+    pub fn number(self) -> usize
+        ensures value { result ≡ column_number self }
+        ensures fits { result < 5 }
+    {
+        self as usize
+    }
+
+    // The mark of a row. What is no row is not permitted.
+    fn mark(self, row: usize) -> Mark
+        ensures { mark_says result ≡ mark_of (table_of_column self) row }
+    {
+        match all_marks().get(row) {
+            Some(marks) => marks[self.number()],
+            None => Mark::NotPermitted,
         }
-        if b == 49 {
-            return 1;
+    }
+
+    // Is all there that a footnote of the table exchanges the row for? Footnote * of section 8.1: 10 stands for 11, 12 and 13, and
+    // these three together for 10. Footnote 6 of section 8.7, in the column B0: B0 and B1 stand for each other.
+    #[tactic(auto, unfolding(crate::specs::Tables::row_of, dictionary::specs::Dictionary::find, dictionary::specs::Rows::rows, refusal::specs::Among::among))]
+    fn is_replaced(self, there: &[bool; ROW_COUNT], row: usize) -> bool
+        ensures { result ≡ replaced (there_in there.now) (table_of_column self).exchanges row }
+    {
+        match self {
+            Column::Home00 | Column::Home01 | Column::Home02 => match row {
+                ROW_10 => there[ROW_11] && there[ROW_12] && there[ROW_13],
+                ROW_11 | ROW_12 | ROW_13 => there[ROW_10],
+                _ => false,
+            },
+            Column::SchoolB0 => match row {
+                ROW_B0 => there[ROW_B1],
+                ROW_B1 => there[ROW_B0],
+                _ => false,
+            },
+            Column::SchoolB1 => false,
         }
-        if b == 50 {
-            return 2;
+    }
+
+    // Is the row mandatory, and neither it nor what it is exchanged for there?
+    fn lacks(self, there: &[bool; ROW_COUNT], row: usize) -> bool
+        requires { row < row_count }
+        ensures { result ≡ is_lacking (table_of_column self) (there_in there.now) row }
+    {
+        matches!(self.mark(row), Mark::Mandatory) && !there[row] && !self.is_replaced(there, row)
+    }
+
+    // The least row that is lacking.
+    fn first_lacking(self, there: &[bool; ROW_COUNT]) -> Option<usize>
+        ensures { result ≡ find (is_lacking (table_of_column self) (there_in there.now)) (range_with_len 0 row_count) }
+    {
+        (0..ROW_COUNT).find(|&row| self.lacks(there, row))
+    }
+
+    // Is the row mandatory or permitted?
+    fn permits(self, row: u16) -> bool
+        ensures { result ≡ permitted (mark_of (table_of_column self) row) }
+    {
+        !matches!(self.mark(usize::from(row)), Mark::NotPermitted)
+    }
+
+    // The place of the first field that is not permitted.
+    fn first_barred(self, fields: &[Field]) -> Option<usize>
+        ensures { result ≡ position (is_barred (table_of_column self)) fields.now }
+    {
+        fields.iter().position(|field| !self.permits(field.row))
+    }
+}
+
+// Which rows the fields name.
+fn rows_of(fields: &[Field]) -> [bool; ROW_COUNT]
+    ensures { (n : ℕ) → n < row_count → there_in result n ≡ among n (rows_named fields.now) }
+{
+    let mut there = [false; ROW_COUNT];
+    for field in fields {
+        let row = usize::from(field.row);
+        if row < ROW_COUNT {
+            there[row] = true;
         }
-        return 5;
     }
-    if a == 66 {
-        if b == 48 {
-            return 3;
-        }
-        if b == 49 {
-            return 4;
-        }
-        return 5;
-    }
-    5
+    there
 }
 
-fn wide(x: u16) -> usize
-    ensures { result ≡ x }
+// The conformity of a message's fields to the table of its type. In this order: 28, 29 with the least row that is missing, 30 with the
+// first field that is not permitted.
+pub fn conforms(type0: u8, type1: u8, fields: &[Field]) -> Result<(), Refusal>
+    ensures { ConformityPromised type0 type1 fields.now result }
 {
-    x as usize
-}
-
-// The marks of the rows in a column. What is no column permits none.
-#[tactic(auto, unfolding(crate::specs::inner::Noted::marks_of, crate::specs::inner::Noted::table_at, crate::specs::Conformity::mark_of, crate::specs::Tables::domicile, crate::specs::Tables::academic, crate::specs::Tables::row_of, dictionary::specs::Dictionary::find, dictionary::specs::Rows::rows))]
-fn marks_of(column: usize) -> [u8; ROW_COUNT]
-    ensures { result ≡ marks_of column row_count 0 }
-{
-    match column {
-        0 => table::HOME_00,
-        1 => table::HOME_01,
-        2 => table::HOME_02,
-        3 => table::SCHOOL_B0,
-        4 => table::SCHOOL_B1,
-        _ => [0; ROW_COUNT],
+    let column = column_of(type0, type1).ok_or(Reason::TypeNotCovered.at(0))?;
+    let there = rows_of(fields);
+    if let Some(row) = column.first_lacking(&there) {
+        return Err(Reason::IdentifierMissing.at(row));
     }
-}
-
-// Before the first field. The marks are taken here once, so that no table is looked into field by field.
-pub fn begin(type0: u8, type1: u8) -> Seen
-    ensures { result ≡ begun type0 type1 }
-{
-    let column = column_of(type0, type1);
-    Seen {
-        column: column,
-        rows: marks_of(column),
-        wrong: false,
-        place: 0,
+    if let Some(place) = column.first_barred(fields) {
+        return Err(Reason::IdentifierNotPermitted.at(place));
     }
-}
-
-// Of the fields that are not permitted the first keeps its place.
-fn wrong_at(s: Seen, i: usize) -> Seen
-    ensures { result ≡ wrong_at s i }
-{
-    if s.wrong {
-        return s;
-    }
-    let mut next = s;
-    next.wrong = true;
-    next.place = i;
-    next
-}
-
-// The field at the place i is noted: a mandatory row is there from now on, and a row that the table does not permit, or none at all, is
-// wrong ("The text", conformity). A row that is named again changes nothing.
-pub fn note(s: Seen, i: usize, f: Field) -> Seen
-    ensures { result ≡ noted s i f }
-{
-    let n = wide(f.row);
-    if ROW_COUNT <= n {
-        return wrong_at(s, i);
-    }
-    let mark = s.rows[n];
-    if mark == NOT_PERMITTED {
-        return wrong_at(s, i);
-    }
-    if mark == MISSING {
-        let mut next = s;
-        next.rows[n] = THERE;
-        return next;
-    }
-    s
-}
-
-// Footnote * of section 8.1: 10 stands for 11, 12 and 13, and these three together for 10.
-fn by_star(rows: &[u8; ROW_COUNT], n: usize) -> bool
-    ensures { result ≡ replaced (is_there rows.now) (footnote_star ∷ []) n }
-{
-    if n == 13 {
-        if rows[14] == THERE {
-            if rows[15] == THERE {
-                return rows[16] == THERE;
-            }
-        }
-        return false;
-    }
-    if n == 14 {
-        return rows[13] == THERE;
-    }
-    if n == 15 {
-        return rows[13] == THERE;
-    }
-    if n == 16 {
-        return rows[13] == THERE;
-    }
-    false
-}
-
-// Footnote 6 of section 8.7: B0 and B1 stand for each other.
-fn by_six(rows: &[u8; ROW_COUNT], n: usize) -> bool
-    ensures { result ≡ replaced (is_there rows.now) (footnote_6 ∷ []) n }
-{
-    if n == 89 {
-        return rows[90] == THERE;
-    }
-    if n == 90 {
-        return rows[89] == THERE;
-    }
-    false
-}
-
-// Is all there that a footnote of its table exchanges the row for?
-fn is_replaced(column: usize, rows: &[u8; ROW_COUNT], n: usize) -> bool
-    requires { column < 5 }
-    ensures { result ≡ replaced (is_there rows.now) (table_at column).exchanges n }
-{
-    if column < 3 {
-        return by_star(rows, n);
-    }
-    if column == 3 {
-        return by_six(rows, n);
-    }
-    false
-}
-
-// The least mandatory row that is missing and that nothing stands for, or the count of rows.
-#[tactic(auto, unfolding(crate::specs::inner::Noted::none_missing))]
-fn first_missing(column: usize, rows: &[u8; ROW_COUNT]) -> usize
-    requires { column < 5 }
-    ensures { missing_says result ≡ none_missing (table_at column).exchanges rows.now row_count 0 }
-{
-    let mut n = 0;
-    while n < ROW_COUNT {
-        if rows[n] == MISSING {
-            if !is_replaced(column, rows, n) {
-                return n;
-            }
-        }
-        n += 1;
-    }
-    ROW_COUNT
-}
-
-// In this order: 28, 29 with the least row that is missing, 30 with the first field that is not permitted.
-pub fn decide(s: Seen) -> Conformity
-    ensures { result ≡ decided s }
-{
-    let column = s.column;
-    if 5 <= column {
-        return Conformity::Refused(Refusal {
-            number: refusal::TYPE_NOT_COVERED,
-            place: 0,
-        });
-    }
-    let rows = s.rows;
-    let n = first_missing(column, &rows);
-    if n < ROW_COUNT {
-        return Conformity::Refused(Refusal {
-            number: refusal::IDENTIFIER_MISSING,
-            place: n,
-        });
-    }
-    if s.wrong {
-        return Conformity::Refused(Refusal {
-            number: refusal::IDENTIFIER_NOT_PERMITTED,
-            place: s.place,
-        });
-    }
-    Conformity::Conforms
-}
-
-// The conformity of a message's fields to the table of its type.
-pub fn conforms(type0: u8, type1: u8, f: Fields) -> Conformity
-    ensures { ConformityPromised type0 type1 (take f.count f.list) result }
-{
-    let end = dictionary::held(f.count);
-    let mut s = begin(type0, type1);
-    let mut i = 0;
-    while i < end {
-        let x = f.list[i];
-        s = note(s, i, x);
-        i += 1;
-    }
-    decide(s)
+    Ok(())
 }

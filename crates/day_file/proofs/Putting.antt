@@ -1,35 +1,14 @@
 -- Pieces put one behind the other into a lent slice.
 -- Assumes nothing.
-use Prim.Native.Nat.{ℕ, suc, ◌+◌, ◌-◌, ◌≤◌}
+use Prim.Native.Nat.{ℕ, ◌+◌, ◌-◌, ◌≤◌}
 use mathlib.Core.List.{List, [], ◌∷◌, ◌++◌, append_assoc, append-nil}
 use mathlib.Core.Path.{◌≡◌, refl, sym, ap, ◌∙◌}
 use native.Mathlib.Omega.{arith}
-use lib.ListN.{length, set, take, drop, length-append, length-drop, take-append-drop, drop_of_length-le}
-use lib.Seq.{length-take-le, drop_at, take_at, drop-drop, take_all, sets-eq, take-length}
+use lib.ListN.{length, set, take, drop, length-append, length-drop, take-append-drop}
+use lib.Seq.{length-take-le, drop_at, take_at, drop-drop, sets-eq}
 use borrow.Rule.Slice.PartMut.{put_mid}
 use Rattle.refusal.specs.Over.{over}
 use Rattle.day_file.specs.Pieces.{put_at}
-
--- four stores are one piece
-pub four_stores : (l : List ℕ) (p a b c d : ℕ) → p + 4 ≤ length l
-    → set (set (set (set l p a) (p + 1) b) (p + 2) c) (p + 3) d ≡ put_at l p (a ∷ b ∷ c ∷ d ∷ [])
-four_stores l p a b c d h =
-    let e1 : p + 1 ≡ suc p = omega arith in
-    let e2 : p + 2 ≡ suc (suc p) = omega arith in
-    let e3 : p + 3 ≡ suc (suc (suc p)) = omega arith in
-    ap (λ n. set (set (set (set l p a) n b) (p + 2) c) (p + 3) d) e1
-    ∙ ap (λ n. set (set (set (set l p a) (suc p) b) n c) (p + 3) d) e2
-    ∙ ap (λ n. set (set (set (set l p a) (suc p) b) (suc (suc p)) c) n d) e3
-    ∙ sets-eq (a ∷ b ∷ c ∷ d ∷ []) l p h
-
-pub three_stores : (l : List ℕ) (p a b c : ℕ) → p + 3 ≤ length l
-    → set (set (set l p a) (p + 1) b) (p + 2) c ≡ put_at l p (a ∷ b ∷ c ∷ [])
-three_stores l p a b c h =
-    let e1 : p + 1 ≡ suc p = omega arith in
-    let e2 : p + 2 ≡ suc (suc p) = omega arith in
-    ap (λ n. set (set (set l p a) n b) (p + 2) c) e1
-    ∙ ap (λ n. set (set (set l p a) (suc p) b) n c) e2
-    ∙ sets-eq (a ∷ b ∷ c ∷ []) l p h
 
 module _ (l : List ℕ) (p : ℕ) where
   pub length_put : (vs : List ℕ) → p + length vs ≤ length l → length (put_at l p vs) ≡ length l
@@ -69,13 +48,6 @@ module _ (l : List ℕ) (p : ℕ) where
       let n : p + length vs ≡ length (front ++ vs) = omega (arith, length-append front vs, ap length e, length-take-le p l h) in
       ap (λ m. m ++ vs ++ drop (p + length vs) l) e ∙ ap (λ n. front ++ vs ++ drop n l) n
 
--- what a callee that was lent the tail wrote to its front
-pub tail_back : (l vs zs : List ℕ) (a : ℕ) → a ≤ length l → zs ≡ over vs (take (length l - a) (drop a l)) → put_mid a (length l - a) l zs ≡ put_at l a vs
-tail_back l vs zs a h f =
-    let none : drop (length l - a) (drop a l) ≡ [] = drop_of_length-le (drop a l) {i = length l - a} (simp length-drop (omega arith)) in
-    let all : take (length l - a) (drop a l) ≡ drop a l = take_all (length l - a) (drop a l) (simp length-drop (omega arith)) in
-    rw (f, all, none, append-nil, drop-drop) (sym (append_assoc (take a l) vs (drop (a + length vs) l)))
-
 -- behind a piece nothing changes
 pub drop_put : (l : List ℕ) (p n : ℕ) (vs : List ℕ) → p + length vs ≤ length l → p + length vs ≤ n → drop n (put_at l p vs) ≡ drop n l
 drop_put l p n vs h k =
@@ -86,13 +58,16 @@ drop_put l p n vs h k =
     ∙ drop-drop (n - (p + length vs)) (p + length vs) l
     ∙ ap (λ m. drop m l) (sym e)
 
--- three stores, and a copy to the tail behind them
-pub record_put : (l text zs l₃ : List ℕ) (p a b c : ℕ) → p + 3 + length text ≤ length l → l₃ ≡ set (set (set l p a) (p + 1) b) (p + 2) c
-    → zs ≡ take (length text) text ++ drop (length text) (take (length l₃ - (p + 3)) (drop (p + 3) l₃))
-    → put_mid (p + 3) (length l₃ - (p + 3)) l₃ zs ≡ put_at l p (a ∷ b ∷ c ∷ text)
-record_put l text zs l₃ p a b c h e f =
-    let q : l₃ ≡ put_at l p (a ∷ b ∷ c ∷ []) = e ∙ three_stores l p a b c (omega arith) in
-    let n : length l₃ ≡ length l = ap length q ∙ length_put l p (a ∷ b ∷ c ∷ []) (omega arith) in
-    tail_back l₃ text zs (p + 3) (omega arith) (f ∙ ap (λ m. m ++ drop (length text) (take (length l₃ - (p + 3)) (drop (p + 3) l₃))) (take-length text))
-    ∙ ap (λ m. put_at m (p + 3) text) q
-    ∙ put_put l p (a ∷ b ∷ c ∷ []) text (p + 3) refl (omega arith)
+-- what was copied to a part is a piece
+pub part_put : (l vs : List ℕ) (a k : ℕ) → k ≡ length vs → put_mid a k l vs ≡ put_at l a vs
+part_put l vs a k e = rw (e, drop-drop) (sym (append_assoc (take a l) vs (drop (a + length vs) l)))
+
+-- a store, a copy of two bytes, and a copy behind them
+pub record_put : (l b text : List ℕ) (p a : ℕ) → length b ≡ 2 → p + 3 + length text ≤ length l
+    → put_mid (p + 3) (p + 3 + length text - (p + 3)) (put_mid (p + 1) (p + 3 - (p + 1)) (set l p a) b) text ≡ put_at l p (a ∷ b ++ text)
+record_put l b text p a n h =
+    let one : set l p a ≡ put_at l p (a ∷ []) = sets-eq (a ∷ []) l p (omega arith) in
+    part_put (put_mid (p + 1) (p + 3 - (p + 1)) (set l p a) b) text (p + 3) (p + 3 + length text - (p + 3)) (omega arith)
+    ∙ ap (λ m. put_at m (p + 3) text)
+    (part_put (set l p a) b (p + 1) (p + 3 - (p + 1)) (omega (arith, n)) ∙ ap (λ m. put_at m (p + 1) b) one ∙ put_put l p (a ∷ []) b (p + 1) refl (omega arith))
+    ∙ put_put l p (a ∷ b) text (p + 3) (omega (arith, n)) (omega arith)

@@ -7,13 +7,13 @@ use native.Mathlib.Omega.{arith}
 use lib.ListN.{length, get_or, take, drop, length-append}
 use lib.Seq.{length-take-le, take_all, get_or-take}
 use Rattle.refusal.specs.Over.{over}
-use Rattle.day_file.specs.File.{Scan, four, record_of, need, body, starts, bytes_of}
+use Rattle.day_file.specs.File.{Scan, most_bytes, four, record_of, need, body, starts, bytes_of}
 use Rattle.day_file.specs.Opening.{two_at, scans}
 use Rattle.day_file.specs.Plain.{numbered}
 use Rattle.day_file.specs.Pieces.{put_at}
 use Rattle.day_file.proofs.Standing.{length_scans}
 use Rattle.day_file.proofs.Good.{length_starts}
-use Rattle.day_file.proofs.Putting.{length_put, take_put, put_none, put_put, put_over}
+use Rattle.day_file.proofs.Putting.{take_put, put_none, put_put, put_over}
 use Rattle.day_file.proofs.Places.{in_body, length_there, within, parted, starts_more, body_more}
 
 -- with the first i starts put
@@ -23,7 +23,13 @@ starts_put f count t i = put_at f t (starts 0 (take i (scans count (take t f))))
 abbrev pub size_put : (f : List ℕ) (count t i : ℕ) → ℕ
 size_put f count t i = length (body (take i (scans count (take t f))))
 
-module _ (f : List ℕ) (count t : ℕ) (e : body (scans count (take t f)) ≡ take t f) (room : t + 4 * count + 8 ≤ length f) where
+module _ (f : List ℕ) (count t : ℕ) (all : (body (scans count (take t f)) ≡ take t f) × (t + 4 * count + 8 ≤ most_bytes) × (most_bytes ≤ length f)) where
+  e : body (scans count (take t f)) ≡ take t f
+  e = all.0
+
+  room : t + 4 * count + 8 ≤ length f
+  room = omega (arith, all.1, all.2)
+
   abbrev rs : List Scan
   rs = scans count (take t f)
 
@@ -33,13 +39,9 @@ module _ (f : List ℕ) (count t : ℕ) (e : body (scans count (take t f)) ≡ t
   ends_at : length (body rs) ≡ t
   ends_at = ap length e ∙ length-take-le t f (omega arith)
 
-  pub none_put : f ≡ starts_put f count t 0
-  unfolding starts
-  none_put = sym (put_none f t)
-
-  pub size_none : 0 ≡ size_put f count t 0
-  unfolding body
-  size_none = refl
+  pub none_put : (0 ≡ size_put f count t 0) × (f ≡ starts_put f count t 0)
+  unfolding body starts
+  none_put = (refl, sym (put_none f t))
 
   module _ (i : ℕ) (h : i < count) where
     here : i < length rs
@@ -75,18 +77,16 @@ module _ (f : List ℕ) (count t : ℕ) (e : body (scans count (take t f)) ≡ t
   pub front_kept : (i : ℕ) → take t (starts_put f count t i) ≡ take t f
   front_kept i = take_put f t (starts 0 (take i rs)) (omega arith)
 
-  pub length_starts_put : (i : ℕ) → i ≤ count → length (starts_put f count t i) ≡ length f
-  length_starts_put i h = length_put f t (starts 0 (take i rs)) (omega (arith, length_starts 0 (take i rs), length-take-le i rs (omega (arith, long))))
-
   -- a turn, from what stood before it
-  module _ (i : ℕ) (h : i < count) (at : ℕ) (q : at ≡ size_put f count t i) (g k : List ℕ) (w : g ≡ starts_put f count t i) (x : k ≡ put_at g (t + 4 * i) (four at)) where
-    pub turn_file : k ≡ starts_put f count t (i + 1)
-    turn_file = x ∙ ap (λ l. put_at l (t + 4 * i) (four at)) w ∙ ap (λ n. put_at (starts_put f count t i) (t + 4 * i) (four n)) q ∙ one_put i h
+  module _ (i : ℕ) (h : i < count) (at : ℕ) (g : List ℕ) (now : (at ≡ size_put f count t i) × (g ≡ starts_put f count t i)) where
+    pub turn_fits : at + 3 ≤ t
+    turn_fits = omega (arith, now.0, record_fits i h)
 
-    pub turn_size : (n : ℕ) → n ≡ two_at k (at + 1) → at + (3 + n) ≡ size_put f count t (i + 1)
-    turn_size n y =
-        let z : n ≡ length (numbered rs i).text = y ∙ ap (λ p. two_at k (p + 1)) q ∙ length_read i h k (ap (take t) turn_file ∙ front_kept (i + 1)) in
-        omega (arith, q, z, size_more i h)
+    pub turn_more : (k : List ℕ) → k ≡ put_at g (t + 4 * i) (four at) → (n : ℕ) → n ≡ two_at k (at + 1) → (at + (3 + n) ≡ size_put f count t (i + 1)) × (k ≡ starts_put f count t (i + 1))
+    turn_more k x n y =
+        let file = x ∙ ap (λ l. put_at l (t + 4 * i) (four at)) now.1 ∙ ap (λ n. put_at (starts_put f count t i) (t + 4 * i) (four n)) now.0 ∙ one_put i h in
+        let z : n ≡ length (numbered rs i).text = y ∙ ap (λ p. two_at k (p + 1)) now.0 ∙ length_read i h k (ap (take t) file ∙ front_kept (i + 1)) in
+        (omega (arith, now.0, z, size_more i h), file)
 
   -- then the count and the trailer's own start
   pub all_put : (i : ℕ) → i ≡ count → put_at (put_at (starts_put f count t i) (t + 4 * count) (four count)) (t + 4 * count + 4) (four t) ≡ over (bytes_of rs) f

@@ -1,4 +1,4 @@
--- The walk over the records, record by record: what each test of `all_stand` decides.
+-- The walk over the records, record by record: what each test of `Opened::stands` decides.
 -- Assumes nothing.
 use Prim.Native.Nat.{ℕ, suc, ◌+◌, ◌-◌, ◌*◌, ◌≤◌, ◌<◌}
 use mathlib.Core.Bool.{Bool, true, false}

@@ -5,3 +5,4 @@ pub mod Promise
 pub mod Runs
 pub mod Answers
 pub mod Pieces
+pub mod Opens

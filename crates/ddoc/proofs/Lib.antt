@@ -1,5 +1,3 @@
 -- What the proofs of several functions use.
-mod Numbers
 mod Stored
-mod AnyList
 mod One

@@ -1,16 +1,15 @@
--- The fields of a text that was read fit the lent list, and what storing them leaves is what the definition says.
+-- The fields of a text that was read fit the lent list.
 -- They are at most 64: a zone counts its room down with each field, by induction on the room; and a list with less room is refused.
 -- Assumes nothing.
 use Prim.Native.Nat.{ℕ, zero, suc, ◌+◌, ◌≤◌}
 use mathlib.Core.Bool.{not}
 use mathlib.Core.List.{List, [], ◌∷◌, ◌++◌}
-use mathlib.Core.Path.{◌≡◌, refl, ap, subst}
+use mathlib.Core.Path.{◌≡◌, subst}
 use native.Mathlib.Omega.{arith}
 use lib.Dec.{leb}
 use lib.ListN.{length, drop, length-append}
-use lib.Seq.{take_at}
 use borrow.Author.Tests.{leb-true}
-use Rattle.refusal.specs.Answers.{Answer, good, refused}
+use Rattle.refusal.specs.Answers.{good}
 use Rattle.refusal.specs.Numbers.{identifier_repeated, data_too_short, text_too_long, lent_too_short}
 use Rattle.refusal.specs.Limits.{limit, most_fields}
 use Rattle.refusal.proofs.Binds.{never, same_good, by_bind, by_check}
@@ -22,9 +21,6 @@ use Rattle.header.specs.Header.{size, read_header}
 use Rattle.text.specs.Signature.{read_signature}
 use Rattle.text.specs.Zone.{read_data, zone}
 use Rattle.text.specs.Text.{at_mark, Received, reading, read_text}
-use Rattle.text_reader.specs.Answers.{text_answer}
-use Rattle.records.specs.inner.Lists.{pasted}
-use Rattle.ddoc.specs.Answers.{list_after}
 
 zone_few : (d : Dictionary) (room : ℕ) (before : List Field) (p : ℕ) (l : List ℕ) (x : List Field) → zone d room before p l ≡ good x → length x ≤ length before + room
 unfolding zone
@@ -55,19 +51,12 @@ reading_few t x e =
     by_bind (read_signature y.version (suc (size y.version + length h.before)) h.behind) _ e λ s _ e.
     subst (λ (r : Received). length r.message.fields ≤ most_fields) (same_good e) (zone_few rows most_fields [] (size y.version) h.before f few)
 
-pub fields_fit : (room : ℕ) (t : List ℕ) → ((text_answer (read_text rows room t)).fields.count ≤ 64) × ((text_answer (read_text rows room t)).fields.count ≤ room)
+-- an accepted text's fields fit the lent list
+pub fields_fit : (room : ℕ) (t : List ℕ) (x : Received) → read_text rows room t ≡ good x → length x.message.fields ≤ room
 unfolding read_text
-fields_fit room t = go (read_text rows room t) refl
-  where
-    go : (a : Answer Received) → read_text rows room t ≡ a → ((text_answer a).fields.count ≤ 64) × ((text_answer a).fields.count ≤ room)
-    go (good x) e =
-        by_check (leb (length t) limit) text_too_long limit _ e λ _ e.
-        by_check (leb most_fields room) lent_too_short 0 _ e λ h e.
-        let few : length x.message.fields ≤ 64 = reading_few t x e in
-        let wide : 64 ≤ room = leb-true most_fields room h in
-        (few, omega (arith, few, wide))
-    go (refused k p) e = (omega arith, omega arith)
-
-pub stored : (a : Answer Received) (old : List Field) → pasted (text_answer a).fields.list old (text_answer a).fields.count ≡ list_after a old
-stored (good x) old = ap (λ (l : List Field). l ++ drop (length x.message.fields) old) (take_at x.message.fields _ (length x.message.fields) refl)
-stored (refused k p) old = refl
+fields_fit room t x e =
+    by_check (leb (length t) limit) text_too_long limit _ e λ _ e.
+    by_check (leb most_fields room) lent_too_short 0 _ e λ h e.
+    let few : length x.message.fields ≤ 64 = reading_few t x e in
+    let wide : 64 ≤ room = leb-true most_fields room h in
+    omega (arith, few, wide)

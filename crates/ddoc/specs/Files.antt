@@ -1,38 +1,35 @@
 -- The answers on day files as the C interface gives them.
-use Rattle.std.specs.Prelude.{ℕ}
-use Rattle.day_file.specs.declared.Added.{Added}
-use Rattle.day_file.specs.declared.Added.TheVariants.{Done, NotAdded}
-use Rattle.day_file.specs.declared.Withdrawn.{Withdrawn}
-use Rattle.day_file.specs.declared.Withdrawn.TheVariants.{Gone, NotGone}
-use Rattle.day_file.specs.declared.Placed.{Placed}
-use Rattle.day_file.specs.declared.Placed.TheVariants.{At, Nowhere}
-use Rattle.squeeze.specs.declared.Squeezed.{Squeezed}
-use Rattle.squeeze.specs.declared.Squeezed.TheVariants.{Done as Squeezes, NotDone}
+use Rattle.std.specs.Prelude.{ℕ, ◌-◌, List, length}
+use Rattle.refusal.specs.Answers.{Answer as Says, good as accepts, refused as refuses}
+use Rattle.day_file.specs.File.{Scan, bytes_of}
+use Rattle.day_file.specs.Promise.{Place}
+use Rattle.squeeze.specs.Squeeze.{live_ones}
+use Rattle.tally.specs.declared.Tally.{Tally}
 use Rattle.ddoc.specs.declared.Answer.{Answer}
 use Rattle.ddoc.specs.declared.Part.{Part}
-use Rattle.ddoc.specs.declared.Tallied.{Tallied}
-use Rattle.tally.specs.declared.Counted.{Counted}
+use Rattle.ddoc.specs.Answers.{accepted, refused}
 
 -- the file's length now, and the number of the record added
-abbrev pub added_numbers : Added → Answer
-added_numbers (Done n size) = record { number = 0; place = 0; length = size; used = n }
-added_numbers (NotAdded r) = record { number = r.number; place = r.place; length = 0; used = 0 }
+abbrev pub added_numbers : Says (List Scan) → Answer
+added_numbers (accepts rs) = accepted (length (bytes_of rs)) (length rs - 1)
+added_numbers (refuses k p) = refused k p
 
 -- the file's length, as it was
-abbrev pub withdrawn_numbers : (len : ℕ) → Withdrawn → Answer
-withdrawn_numbers len Gone = record { number = 0; place = 0; length = len; used = 0 }
-withdrawn_numbers len (NotGone r) = record { number = r.number; place = r.place; length = 0; used = 0 }
+abbrev pub withdrawn_numbers : (len : ℕ) → Says (List Scan) → Answer
+withdrawn_numbers len (accepts rs) = accepted len 0
+withdrawn_numbers len (refuses k p) = refused k p
 
 -- the part of the slice that is the text
-abbrev pub part_numbers : Placed → Part
-part_numbers (At start n) = record { number = 0; place = 0; which = 0; start = start; length = n }
-part_numbers (Nowhere r) = record { number = r.number; place = r.place; which = 0; start = 0; length = 0 }
+abbrev pub part_numbers : Says Place → Part
+part_numbers (accepts x) = record { number = 0; place = 0; which = 0; start = x.start; length = x.length }
+part_numbers (refuses k p) = record { number = k; place = p; which = 0; start = 0; length = 0 }
 
 -- the file's length now, and the count of live records
-abbrev pub squeezed_numbers : Squeezed → Answer
-squeezed_numbers (Squeezes n size) = record { number = 0; place = 0; length = size; used = n }
-squeezed_numbers (NotDone r) = record { number = r.number; place = r.place; length = 0; used = 0 }
+abbrev pub squeezed_numbers : Says (List Scan) → Answer
+squeezed_numbers (accepts rs) = accepted (length (bytes_of (live_ones rs))) (length (live_ones rs))
+squeezed_numbers (refuses k p) = refused k p
 
--- 0 or the number of a refusal, whose place is 0, and the tally
-abbrev pub tallied_numbers : Counted → Tallied
-tallied_numbers c = record { answer = record { number = c.number; place = 0; length = 0; used = 0 }; tally = c.tally }
+-- 0, or the number and the place of a refusal
+abbrev pub tallied_numbers : Says Tally → Answer
+tallied_numbers (accepts t) = accepted 0 0
+tallied_numbers (refuses k p) = refused k p

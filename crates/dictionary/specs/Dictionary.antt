@@ -1,12 +1,10 @@
 -- A dictionary: rows numbered from 0, each with an identifier, lengths and the characters of its data (document 01, "The text").
-use Rattle.std.specs.Prelude.{ℕ, zero, suc, ◌+◌, ◌*◌, Bool, true, false, not, ◌&&◌, ◌||◌, List, [], ◌∷◌, map, ltb, eqb, length}
+use Rattle.std.specs.Prelude.{ℕ, zero, suc, ◌+◌, ◌*◌, Bool, true, false, not, ◌&&◌, ◌||◌, Option, Some, None, List, [], ◌∷◌, map, ltb, eqb, length}
 use Rattle.refusal.specs.Pick.{pick}
 use Rattle.refusal.specs.Answers.{Answer, good, refused}
 use Rattle.refusal.specs.Numbers.{unknown_identifier, bad_record}
 use Rattle.dictionary.specs.declared.Kind.{Kind}
 use Rattle.dictionary.specs.declared.Kind.TheVariants.{Numeric, Alphabetic, Alphanumeric}
-use Rattle.dictionary.specs.declared.Greatest.{Greatest}
-use Rattle.dictionary.specs.declared.Greatest.TheVariants.{UpTo, NoLimit}
 use Rattle.dictionary.specs.declared.Row.{Row}
 use Rattle.dictionary.specs.declared.Field.{Field}
 use Rattle.refusal.specs.Classes.{between, digit, upper}
@@ -24,9 +22,9 @@ in_kind Alphanumeric c = between 32 95 c
 unfoldable pub allowed : Row → (chars : List ℕ) → ℕ → Bool
 allowed r chars c = in_kind r.kind c
 
-abbrev pub is_greatest : Greatest → ℕ → Bool
-is_greatest (UpTo n) m = eqb m n
-is_greatest NoLimit m = false
+abbrev pub is_greatest : Option ℕ → ℕ → Bool
+is_greatest (Some n) m = eqb m n
+is_greatest None m = false
 
 -- fixed length: least equals greatest
 abbrev pub fixed : Row → Bool
@@ -60,10 +58,6 @@ unfoldable pub rising : Dictionary → Bool
 rising [] = true
 rising (r ∷ []) = true
 rising (r ∷ q ∷ d) = ltb (rank r) (rank q) && rising (q ∷ d)
-
--- a record of zeros: what stands where there is no field
-abbrev pub no_field : Field
-no_field = record { row = 0; cut = false; start = 0; length = 0 }
 
 -- the rows that fields name
 abbrev pub rows_of : List Field → List ℕ

@@ -3,4 +3,3 @@ pub mod Products
 pub mod Powers
 pub mod Values
 pub mod Vandermonde
-pub mod Fills

@@ -119,9 +119,6 @@ log_lt a h n = by_log a h (λ l. l) (λ z _. absurd (n z))
 pub log_is : (a : ℕ) → a < 256 → is_log (get_or logs a 0) ≡ true
 log_is a h = by_log a h (λ l. ap (λ (b : Bool). b || eqb (get_or logs a 0) 510) (lt-ltb (get_or logs a 0) 255 l)) (λ _ e. or_right (ltb (get_or logs a 0) 255) (eqb (get_or logs a 0) 510) (eq-eqb (get_or logs a 0) 510 e))
 
-pub log_below : (m : ℕ) → m < 255 → is_log m ≡ true
-log_below m h = ap (λ (b : Bool). b || eqb m 510) (lt-ltb m 255 h)
-
 pub log_most : (m : ℕ) → is_log m ≡ true → m ≤ 510
 log_most m e = by_or (ltb m 255) (eqb m 510) e (λ l. omega (arith, ltb-true m 255 l)) (λ q. omega (arith, eqb-true m 510 q))
 

@@ -3,14 +3,14 @@
 -- test of 64 products and associativity one of 512, computed.
 -- Assumes nothing.
 use Prim.Native.Nat.{◌%◌, ◌*◌, ◌+◌, ◌/◌, ◌<◌, suc, zero, ℕ}
-use lib.Bits.{bit_xor, differ, xor_block, xor_lt, xor_mod, xor_shr}
+use lib.Bits.{bit_xor, xor_block, xor_lt, xor_mod, xor_shr}
 use lib.Dec.{T, eqb, eqb→eq}
 use mathlib.Core.Bool.{Bool, ◌&&◌, true}
 use mathlib.Core.List.{List, [], ◌∷◌}
 use mathlib.Core.Path.{◌∙◌, ◌≡◌, ap, ap₂, refl, sym}
 use native.Mathlib.Omega.{arith}
 use Rattle.refusal.proofs.Tests.{and_left, and_right, at_below, below}
-use Rattle.galois.proofs.Sums.{odd_lt, xor_half, xor_odd, ⊕-self, ⊕-swap, ⊕-zero-l, ⊕-zero-r}
+use Rattle.galois.proofs.Sums.{⊕-self, ⊕-swap, ⊕-zero-l, ⊕-zero-r}
 use Rattle.galois.specs.Field.{◌⊕◌, ◌⊗◌, bits, keep, times2}
 
 abbrev pub all : (ℕ → Bool) → List ℕ → Bool
@@ -18,12 +18,13 @@ all f [] = true
 all f (p ∷ ps) = f p && all f ps
 
 -- ---- digits
-keep_differ : (d e a : ℕ) → d < 2 → e < 2 → keep (differ d e) a ≡ keep d a ⊕ keep e a
-keep_differ zero e a hd he = sym (⊕-zero-l (keep e a))
-keep_differ (suc d) zero a hd he = sym (⊕-zero-r a)
-keep_differ (suc (suc d)) (suc e) a hd he = absurd (omega arith)
-keep_differ (suc zero) (suc (suc e)) a hd he = absurd (omega arith)
-keep_differ (suc zero) (suc zero) a hd he = sym (⊕-self a)
+keep_sum : (d e a : ℕ) → d < 2 → e < 2 → keep (d ⊕ e) a ≡ keep d a ⊕ keep e a
+unfolding ◌⊕◌
+keep_sum zero e a hd he = refl
+keep_sum (suc d) zero a hd he = ap (λ (n : ℕ). keep n a) (⊕-zero-r (suc d)) ∙ sym (⊕-zero-r a)
+keep_sum (suc (suc d)) (suc e) a hd he = absurd (omega arith)
+keep_sum (suc zero) (suc (suc e)) a hd he = absurd (omega arith)
+keep_sum (suc zero) (suc zero) a hd he = sym (⊕-self a)
 
 keep_⊕ : (d a b : ℕ) → keep d (a ⊕ b) ≡ keep d a ⊕ keep d b
 keep_⊕ zero a b = sym (⊕-zero-l 0)
@@ -31,11 +32,11 @@ keep_⊕ (suc d) a b = refl
 
 keep_odd : (a b v : ℕ) → keep ((a ⊕ b) % 2) v ≡ keep (a % 2) v ⊕ keep (b % 2) v
 unfolding ◌⊕◌
-keep_odd a b v = ap (λ (d : ℕ). keep d v) (xor_odd a b) ∙ keep_differ (a % 2) (b % 2) v (odd_lt a) (odd_lt b)
+keep_odd a b v = ap (λ (d : ℕ). keep d v) (xor_mod a b 1) ∙ keep_sum (a % 2) (b % 2) v (omega arith) (omega arith)
 
 half_⊕ : (a b : ℕ) → (a ⊕ b) / 2 ≡ a / 2 ⊕ b / 2
 unfolding ◌⊕◌
-half_⊕ = xor_half
+half_⊕ a b = xor_shr a b 1
 
 -- ---- twice
 double_xor : (a b : ℕ) → 2 * (a ⊕ b) ≡ 2 * a ⊕ 2 * b
@@ -197,9 +198,6 @@ pub ⊗-assoc : (a b c : ℕ) → (a ⊗ b) ⊗ c ≡ a ⊗ (b ⊗ c)
     ∙ assoc_low (a % 256) (b % 256) (c % 256) (omega arith) (omega arith) (omega arith)
     ∙ sym (⊗-low-l a (b ⊗ c) ∙ ap (λ (x : ℕ). (a % 256) ⊗ x) (⊗-low b c))
 
-pub ⊗-left-comm : (a b c : ℕ) → a ⊗ (b ⊗ c) ≡ b ⊗ (a ⊗ c)
-⊗-left-comm a b c = sym (⊗-assoc a b c) ∙ ap (λ (x : ℕ). x ⊗ c) (⊗-comm a b) ∙ ⊗-assoc b a c
-
 pub ⊗-zero-r : (a : ℕ) → a ⊗ 0 ≡ 0
 ⊗-zero-r a = adds_zero (λ x. a ⊗ x) (⊗-dist a)
 
@@ -216,5 +214,3 @@ pub ⊗-one-l : (b : ℕ) → b < 256 → 1 ⊗ b ≡ b
 
 pub ⊗-one : (b : ℕ) → b < 256 → b ⊗ 1 ≡ b
 ⊗-one b h = ⊗-comm b 1 ∙ ⊗-one-l b h
-
-pub ruleset products = (⊗-dist, ⊗-dist-r, ⊗-assoc, ⊗-comm, ⊗-left-comm, ⊗-zero-l, ⊗-zero-r)

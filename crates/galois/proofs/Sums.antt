@@ -1,50 +1,9 @@
--- The laws of the sum, for every number. Associativity goes digit by digit, by halves; the rest is the library's.
+-- The laws of the sum, for every number: the library's of exclusive or, and what follows from them.
 -- Assumes nothing.
-use Prim.Native.Nat.{◌%◌, ◌*◌, ◌+◌, ◌/◌, ◌<◌, suc, zero, ℕ}
-use lib.Arith.{bin_ind}
-use lib.Bits.{bit_xor, differ, xor_comm, xor_lt, xor_self, xor_shr, xor_step, xor_zero_r}
-use mathlib.Core.Path.{◌∙◌, ◌≡◌, ap, ap₂, refl, sym}
-use native.Mathlib.Omega.{arith}
+use Prim.Native.Nat.{◌<◌, ℕ}
+use lib.Bits.{xor_assoc, xor_comm, xor_lt, xor_self, xor_zero_r}
+use mathlib.Core.Path.{◌∙◌, ◌≡◌, ap, refl, sym}
 use Rattle.galois.specs.Field.{◌⊕◌}
-
-differ_lt : (x y : ℕ) → x < 2 → y < 2 → differ x y < 2
-differ_lt zero y h k = k
-differ_lt (suc x) zero h k = h
-differ_lt (suc zero) (suc y) h k = omega arith
-differ_lt (suc (suc x)) (suc y) h k = absurd (omega arith)
-
-differ_assoc : (x y z : ℕ) → x < 2 → y < 2 → z < 2 → differ (differ x y) z ≡ differ x (differ y z)
-differ_assoc zero y z hx hy hz = refl
-differ_assoc (suc x) zero z hx hy hz = refl
-differ_assoc (suc (suc x)) (suc y) z hx hy hz = absurd (omega arith)
-differ_assoc (suc zero) (suc (suc y)) z hx hy hz = absurd (omega arith)
-differ_assoc (suc zero) (suc zero) zero hx hy hz = refl
-differ_assoc (suc zero) (suc zero) (suc zero) hx hy hz = refl
-differ_assoc (suc zero) (suc zero) (suc (suc z)) hx hy hz = absurd (omega arith)
-
-pub odd_lt : (a : ℕ) → a % 2 < 2
-odd_lt a = omega arith
-
-pub xor_half : (a b : ℕ) → bit_xor a b / 2 ≡ bit_xor (a / 2) (b / 2)
-xor_half a b = xor_shr a b 1
-
-pub xor_odd : (a b : ℕ) → bit_xor a b % 2 ≡ differ (a % 2) (b % 2)
-xor_odd a b =
-    let q : ℕ = bit_xor (a / 2) (b / 2) in
-    let d : ℕ = differ (a % 2) (b % 2) in
-    ap (λ (x : ℕ). x % 2) (xor_step a b) ∙ low q d (differ_lt (a % 2) (b % 2) (odd_lt a) (odd_lt b))
-  where
-    low : (q d : ℕ) → d < 2 → (q * 2 + d) % 2 ≡ d
-    low q d h = omega arith
-
-pub xor_assoc : (a b c : ℕ) → bit_xor (bit_xor a b) c ≡ bit_xor a (bit_xor b c)
-xor_assoc a =
-    bin_ind (λ (n : ℕ). (b c : ℕ) → bit_xor (bit_xor n b) c ≡ bit_xor n (bit_xor b c)) (λ b c. refl)
-    (λ n ih b c. xor_step (bit_xor n b) c
-    ∙ ap₂ (λ (x y : ℕ). x * 2 + y)
-    (ap (λ (x : ℕ). bit_xor x (c / 2)) (xor_half n b) ∙ ih (b / 2) (c / 2) ∙ ap (bit_xor (n / 2)) (sym (xor_half b c)))
-    (ap (λ (x : ℕ). differ x (c % 2)) (xor_odd n b) ∙ differ_assoc (n % 2) (b % 2) (c % 2) (odd_lt n) (odd_lt b) (odd_lt c) ∙ ap (differ (n % 2)) (sym (xor_odd b c)))
-    ∙ sym (xor_step n (bit_xor b c))) a
 
 pub ⊕-assoc : (a b c : ℕ) → (a ⊕ b) ⊕ c ≡ a ⊕ (b ⊕ c)
 unfolding ◌⊕◌

@@ -1,7 +1,7 @@
 -- The value of a list of words at x: of two lists one behind the other, of a sum and of a multiple. By induction on the words.
 -- Assumes nothing.
 use Prim.Native.Nat.{suc, zero, ℕ}
-use lib.ListN.{get_or, length, length-append, replicate}
+use lib.ListN.{length, length-append, replicate}
 use mathlib.Core.List.{List, [], ◌++◌, ◌∷◌}
 use mathlib.Core.Path.{◌∙◌, ◌≡◌, ap, refl, sym}
 use native.Mathlib.Omega.{arith}
@@ -95,26 +95,3 @@ bytes_zeros (suc k) = (omega arith, bytes_zeros k)
 pub bytes_append : (a b : List ℕ) → Bytes a → Bytes b → Bytes (a ++ b)
 bytes_append [] b ha hb = hb
 bytes_append (x ∷ a) b ha hb = (ha.0, bytes_append a b ha.1 hb)
-
--- ---- word by word
-pub get_d_plus : (a b : List ℕ) (i : ℕ) → get_or (plus a b) i 0 ≡ get_or a i 0 ⊕ get_or b i 0
-unfolding plus
-get_d_plus [] b i = sym (ap (λ (z : ℕ). z ⊕ get_or b i 0) (none i) ∙ ⊕-zero-l (get_or b i 0))
-  where
-    none : (i : ℕ) → get_or {A = ℕ} [] i 0 ≡ 0
-    none zero = refl
-    none (suc i) = refl
-get_d_plus (x ∷ a) [] i = sym (ap (λ (z : ℕ). get_or (x ∷ a) i 0 ⊕ z) (none i) ∙ ⊕-zero-r (get_or (x ∷ a) i 0))
-  where
-    none : (i : ℕ) → get_or {A = ℕ} [] i 0 ≡ 0
-    none zero = refl
-    none (suc i) = refl
-get_d_plus (x ∷ a) (y ∷ b) zero = refl
-get_d_plus (x ∷ a) (y ∷ b) (suc i) = get_d_plus a b i
-
-pub get_d_scale : (c : ℕ) (g : List ℕ) (i : ℕ) → get_or (scale c g) i 0 ≡ c ⊗ get_or g i 0
-unfolding scale
-get_d_scale c [] zero = sym (⊗-zero-r c)
-get_d_scale c [] (suc i) = sym (⊗-zero-r c)
-get_d_scale c (w ∷ g) zero = refl
-get_d_scale c (w ∷ g) (suc i) = get_d_scale c g i

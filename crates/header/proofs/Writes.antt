@@ -1,41 +1,37 @@
--- A header's characters, written out one by one, and laid over an output.
+-- A header's characters, piece by piece behind each other over an output.
 -- Assumes nothing.
-use Prim.Native.Nat.{ℕ, ◌≤◌}
-use mathlib.Core.List.{List, [], ◌∷◌, ◌++◌, append-nil}
+use Prim.Native.Nat.{ℕ, ◌+◌, ◌≤◌}
+use mathlib.Core.Bool.{true, false}
+use mathlib.Core.List.{List, [], ◌∷◌, ◌++◌, append_assoc, append-nil}
 use mathlib.Core.Path.{◌≡◌, refl, sym, ap, ◌∙◌}
 use native.Mathlib.Omega.{arith}
-use lib.ListN.{length, get_or, take, drop}
-use lib.Seq.{take-length, length-take-le}
-use Rattle.refusal.specs.Answers.{Answer, good, refused, ◌>>=◌, ◌>>◌}
-use Rattle.refusal.specs.Numbers.{refusal}
+use lib.ListN.{length, take, drop, length-append}
+use lib.Seq.{take_at, drop_at, drop-drop}
+use borrow.Rule.Slice.PartMut.{put_mid}
+use Rattle.refusal.specs.Pick.{pick}
 use Rattle.refusal.specs.Over.{over}
-use Rattle.refusal.specs.Chars.{chars_at}
-use Rattle.refusal.proofs.Chars.{chars_at_law}
+use Rattle.refusal.proofs.Binds.{clash}
 use Rattle.header.specs.declared.Version.{Version}
 use Rattle.header.specs.declared.Version.TheVariants.{V02, V03, V04}
 use Rattle.header.specs.declared.Header.{Header}
-use Rattle.header.specs.Header.{size, version_of, version_chars, digits, header_chars, parts, write_header}
-use Rattle.header.specs.inner.Code.{verdict, kept_perimeter, kept_country}
+use Rattle.header.specs.Header.{size, has_perimeter, has_country, version_chars, digits, header_chars}
+use Rattle.header.specs.inner.Code.{perimeter_of, country_of}
 
-pub most_size : (v : Version) → size v ≤ 26
-most_size V02 = omega arith
-most_size V03 = omega arith
-most_size V04 = omega arith
+-- the characters `done`, a of them, stand at the front of x, and behind them what was there
+pub record Laid (done old x : List ℕ) (a : ℕ) : Type 0 where
+  pub is : x ≡ over done old
+  pub long : length done ≡ a
 
--- a list of a known length, character by character
-spelled_out : (n : ℕ) (l : List ℕ) → length l ≡ n → chars_at n 0 l ≡ l
-spelled_out n l h = sym (chars_at_law n 0 l (omega arith)) ∙ ap (λ k. take k l) (sym h) ∙ take-length l
-
-module _ (w a b i s t : List ℕ) (lw : length w ≡ 2) (la : length a ≡ 4) (lb : length b ≡ 4) (li : length i ≡ 4) (ls : length s ≡ 4) (lt : length t ≡ 2) where
-  -- the parts one behind the other
-  abbrev row : List ℕ → List ℕ
-  row rest =
-      68 ∷ 67 ∷ get_or w 0 0 ∷ get_or w 1 0 ∷ get_or a 0 0 ∷ get_or a 1 0 ∷ get_or a 2 0 ∷ get_or a 3 0 ∷ get_or b 0 0 ∷ get_or b 1 0 ∷ get_or b 2 0 ∷ get_or b 3 0
-      ∷ get_or i 0 0 ∷ get_or i 1 0 ∷ get_or i 2 0 ∷ get_or i 3 0 ∷ get_or s 0 0 ∷ get_or s 1 0 ∷ get_or s 2 0 ∷ get_or s 3 0 ∷ get_or t 0 0 ∷ get_or t 1 0 ∷ rest
-
-  joined : (rest : List ℕ) → row rest ≡ 68 ∷ 67 ∷ w ++ (a ++ (b ++ (i ++ (s ++ (t ++ rest)))))
-  joined rest =
-      λ k. 68 ∷ 67 ∷ spelled_out 2 w lw k ++ (spelled_out 4 a la k ++ (spelled_out 4 b lb k ++ (spelled_out 4 i li k ++ (spelled_out 4 s ls k ++ (spelled_out 2 t lt k ++ rest)))))
+-- one piece more
+put : (done piece old x z : List ℕ) (a k : ℕ) → Laid done old x a → z ≡ piece → length piece ≡ k → Laid (done ++ piece) old (put_mid a k x z) (a + k)
+put done piece old x z a k l e m =
+    let front : take a x ≡ done = ap (take a) l.is ∙ take_at done (drop (length done) old) a l.long in
+    let back : drop a x ≡ drop a old = ap (drop a) l.is ∙ drop_at done (drop (length done) old) a l.long ∙ ap (λ j. drop j old) l.long in
+    let all : length (done ++ piece) ≡ a + k = omega (arith, length-append done piece, l.long) in
+    record {
+      is = (λ i. front i ++ (e i ++ drop k (back i))) ∙ sym (append_assoc done piece (drop k (drop a old))) ∙ ap (λ l. (done ++ piece) ++ l) (drop-drop k a old ∙ ap (λ j. drop j old) (sym all));
+      long = all;
+    }
 
 two_long : (v : Version) → length (version_chars v) ≡ 2
 two_long V02 = refl
@@ -46,46 +42,57 @@ four_long : (n : ℕ) → length (digits n) ≡ 4
 unfolding digits
 four_long n = refl
 
--- THE CHARACTERS OF A HEADER: what the version lacks is left out
-module _ (h : Header) (la : length h.authority ≡ 4) (lb : length h.certificate ≡ 4) (lt : length h.doctype ≡ 2) where
-  abbrev all : Version → List ℕ → List ℕ → List ℕ
-  all v p c = row (version_chars v) h.authority h.certificate (digits h.issue_day) (digits h.signing_day) h.doctype (two_long v) la lb (four_long h.issue_day) (four_long h.signing_day) lt (get_or p 0 0 ∷ get_or p 1 0 ∷ get_or c 0 0 ∷ get_or c 1 0 ∷ [])
+-- the first 22 characters, which every version has
+abbrev pub fixed : Version → Header → List ℕ
+fixed v h = ((((((68 ∷ 67 ∷ []) ++ version_chars v) ++ h.authority) ++ h.certificate) ++ digits h.issue_day) ++ digits h.signing_day) ++ h.doctype
 
-  together : (v : Version) (rest : List ℕ) → row (version_chars v) h.authority h.certificate (digits h.issue_day) (digits h.signing_day) h.doctype (two_long v) la lb (four_long h.issue_day) (four_long h.signing_day) lt rest
-      ≡ 68 ∷ 67 ∷ version_chars v ++ (h.authority ++ (h.certificate ++ (digits h.issue_day ++ (digits h.signing_day ++ (h.doctype ++ rest)))))
-  together v rest = joined (version_chars v) h.authority h.certificate (digits h.issue_day) (digits h.signing_day) h.doctype (two_long v) la lb (four_long h.issue_day) (four_long h.signing_day) lt rest
+pub fixed_laid : (v : Version) (h : Header) (old x w a b i s t : List ℕ) → length h.authority ≡ 4 → length h.certificate ≡ 4 → length h.doctype ≡ 2
+    → x ≡ 68 ∷ 67 ∷ [] → w ≡ version_chars v → a ≡ h.authority → b ≡ h.certificate → i ≡ digits h.issue_day → s ≡ digits h.signing_day → t ≡ h.doctype
+    → Laid (fixed v h) old (put_mid 20 2 (put_mid 16 4 (put_mid 12 4 (put_mid 8 4 (put_mid 4 4 (put_mid 2 2 (x ++ drop 2 old) w) a) b) i) s) t) 22
+fixed_laid v h old x w a b i s t la lb lt ex ew ea eb ei es et =
+    let dc : Laid (68 ∷ 67 ∷ []) old (x ++ drop 2 old) 2 = record { is = ap (λ l. l ++ drop 2 old) ex; long = refl } in
+    let version = put (68 ∷ 67 ∷ []) (version_chars v) old (x ++ drop 2 old) w 2 2 dc ew (two_long v) in
+    let authority = put _ h.authority old _ a 4 4 version ea la in
+    let certificate = put _ h.certificate old _ b 8 4 authority eb lb in
+    let issue = put _ (digits h.issue_day) old _ i 12 4 certificate ei (four_long h.issue_day) in
+    let signing = put _ (digits h.signing_day) old _ s 16 4 issue es (four_long h.signing_day) in
+    put _ h.doctype old _ t 20 2 signing et lt
 
-  of_kept : (v : Version) → length (kept_perimeter v h) ≡ 2 → length (kept_country v h) ≡ 2 → take (size v) (all v (kept_perimeter v h) (kept_country v h)) ≡ header_chars v h
-  unfolding header_chars
-  of_kept V02 lp lc = together V02 []
-  of_kept V03 lp lc = together V03 (get_or h.perimeter 0 0 ∷ get_or h.perimeter 1 0 ∷ [])
-      ∙ ap (λ x. 68 ∷ 67 ∷ version_chars V03 ++ (h.authority ++ (h.certificate ++ (digits h.issue_day ++ (digits h.signing_day ++ (h.doctype ++ x)))))) (spelled_out 2 h.perimeter lp ∙ sym (append-nil h.perimeter))
-  of_kept V04 lp lc = together V04 (get_or h.perimeter 0 0 ∷ get_or h.perimeter 1 0 ∷ get_or h.country 0 0 ∷ get_or h.country 1 0 ∷ [])
-      ∙ (λ k. 68 ∷ 67 ∷ version_chars V04 ++ (h.authority ++ (h.certificate ++ (digits h.issue_day ++ (digits h.signing_day ++ (h.doctype ++ (spelled_out 2 h.perimeter lp k ++ spelled_out 2 h.country lc k)))))))
+-- with the perimeter, where the version has it
+abbrev pub WithPerimeter : Version → Header → (old x : List ℕ) → Type 0
+WithPerimeter v h old x = Laid (fixed v h ++ perimeter_of v h) old x (pick (has_perimeter v) 24 22)
 
-  pub header_is : (v : Version) (w i s p c : List ℕ) → w ≡ version_chars v → i ≡ digits h.issue_day → s ≡ digits h.signing_day → p ≡ kept_perimeter v h → c ≡ kept_country v h → length p ≡ 2 → length c ≡ 2
-      → take (size v) (68 ∷ 67 ∷ get_or w 0 0 ∷ get_or w 1 0 ∷ get_or h.authority 0 0 ∷ get_or h.authority 1 0 ∷ get_or h.authority 2 0 ∷ get_or h.authority 3 0
-      ∷ get_or h.certificate 0 0 ∷ get_or h.certificate 1 0 ∷ get_or h.certificate 2 0 ∷ get_or h.certificate 3 0 ∷ get_or i 0 0 ∷ get_or i 1 0 ∷ get_or i 2 0 ∷ get_or i 3 0
-      ∷ get_or s 0 0 ∷ get_or s 1 0 ∷ get_or s 2 0 ∷ get_or s 3 0 ∷ get_or h.doctype 0 0 ∷ get_or h.doctype 1 0 ∷ get_or p 0 0 ∷ get_or p 1 0 ∷ get_or c 0 0 ∷ get_or c 1 0 ∷ []) ≡ header_chars v h
-  header_is v w i s p c ew ei es ep ec lp lc =
-      (λ k. take (size v) (68 ∷ 67 ∷ get_or (ew k) 0 0 ∷ get_or (ew k) 1 0 ∷ get_or h.authority 0 0 ∷ get_or h.authority 1 0 ∷ get_or h.authority 2 0 ∷ get_or h.authority 3 0
-      ∷ get_or h.certificate 0 0 ∷ get_or h.certificate 1 0 ∷ get_or h.certificate 2 0 ∷ get_or h.certificate 3 0 ∷ get_or (ei k) 0 0 ∷ get_or (ei k) 1 0 ∷ get_or (ei k) 2 0 ∷ get_or (ei k) 3 0
-      ∷ get_or (es k) 0 0 ∷ get_or (es k) 1 0 ∷ get_or (es k) 2 0 ∷ get_or (es k) 3 0 ∷ get_or h.doctype 0 0 ∷ get_or h.doctype 1 0 ∷ get_or (ep k) 0 0 ∷ get_or (ep k) 1 0 ∷ get_or (ec k) 0 0 ∷ get_or (ec k) 1 0 ∷ []))
-      ∙ of_kept v (ap length (sym ep) ∙ lp) (ap length (sym ec) ∙ lc)
+pub perimeter_then : (v : Version) (h : Header) (old x z : List ℕ) → has_perimeter v ≡ true → length h.perimeter ≡ 2 → z ≡ h.perimeter → Laid (fixed v h) old x 22 → WithPerimeter v h old (put_mid 22 2 x z)
+perimeter_then V02 h old x z e m f l = clash e
+perimeter_then V03 h old x z e m f l = put (fixed V03 h) h.perimeter old x z 22 2 l f m
+perimeter_then V04 h old x z e m f l = put (fixed V04 h) h.perimeter old x z 22 2 l f m
 
--- what the copy leaves in the output
-pub header_over : (v : Version) (h : Header) (chars out z : List ℕ) (n : ℕ) → n ≡ size v → length chars ≡ 26 → take (size v) chars ≡ header_chars v h → z ≡ take n chars ++ drop n out → z ≡ over (header_chars v h) out
-header_over v h chars out z n e l q f =
-    let long : length (header_chars v h) ≡ size v = ap length (sym q) ∙ length-take-le (size v) chars (omega (arith, most_size v)) in
-    f ∙ (λ k. take (e k) chars ++ drop (e k) out) ∙ ap (λ x. x ++ drop (size v) out) q ∙ ap (λ m. header_chars v h ++ drop m out) (sym long)
+pub perimeter_else : (v : Version) (h : Header) (old x : List ℕ) → has_perimeter v ≡ false → Laid (fixed v h) old x 22 → WithPerimeter v h old x
+perimeter_else V02 h old x e l = rw append-nil l
+perimeter_else V03 h old x e l = clash (sym e)
+perimeter_else V04 h old x e l = clash (sym e)
 
--- what writing refuses, by version
-verdict_seq : {A B : Type 0} (x : Answer A) (b : B) → verdict x ≡ verdict (x >> good b)
-verdict_seq (good a) b = refl
-verdict_seq (refused k p) b = refl
+-- THE CHARACTERS OF A HEADER: and with the country
+whole : (v : Version) (h : Header) → (fixed v h ++ perimeter_of v h) ++ country_of v h ≡ header_chars v h
+unfolding header_chars
+whole v h = simp append_assoc
 
-pub known_verdict : (v : Version) (h : Header) → good v ≡ version_of (get_or h.version 0 0) (get_or h.version 1 0) → verdict (parts v (header_chars v h)) ≡ verdict (write_header h)
-known_verdict v h e = verdict_seq (parts v (header_chars v h)) (header_chars v h) ∙ ap (λ x. verdict (x >>= λ u. parts u (header_chars u h) >> good (header_chars u h))) e
+pub country_then : (v : Version) (h : Header) (old x z : List ℕ) → has_country v ≡ true → length h.country ≡ 2 → z ≡ h.country → WithPerimeter v h old x → put_mid 24 2 x z ≡ over (header_chars v h) old
+country_then V02 h old x z e m f l = clash e
+country_then V03 h old x z e m f l = clash e
+country_then V04 h old x z e m f l = (put (fixed V04 h ++ h.perimeter) h.country old x z 24 2 l f m).is ∙ ap (λ d. over d old) (whole V04 h)
 
-pub unknown_verdict : (h : Header) (k p : ℕ) → refused k p ≡ version_of (get_or h.version 0 0) (get_or h.version 1 0) → refusal k p ≡ verdict (write_header h)
-unknown_verdict h k p e = ap (λ x. verdict (x >>= λ u. parts u (header_chars u h) >> good (header_chars u h))) e
+pub country_else : (v : Version) (h : Header) (old x : List ℕ) → has_country v ≡ false → WithPerimeter v h old x → x ≡ over (header_chars v h) old
+country_else V02 h old x e l = l.is ∙ ap (λ d. over d old) (sym (append-nil (fixed V02 h ++ [])) ∙ whole V02 h)
+country_else V03 h old x e l = l.is ∙ ap (λ d. over d old) (sym (append-nil (fixed V03 h ++ h.perimeter)) ∙ whole V03 h)
+country_else V04 h old x e l = clash (sym e)
+
+-- how many they are
+chars_long : (v : Version) (h : Header) → length h.authority ≡ 4 → length h.certificate ≡ 4 → length h.doctype ≡ 2 → length h.perimeter ≡ 2 → length h.country ≡ 2 → length (header_chars v h) ≡ size v
+unfolding header_chars digits
+chars_long V02 h la lb lt lp lc = simp (length-append) (omega arith)
+chars_long V03 h la lb lt lp lc = simp (length-append) (omega arith)
+chars_long V04 h la lb lt lp lc = simp (length-append) (omega arith)
+
+pub in_front : (v : Version) (h : Header) (old x : List ℕ) → length h.authority ≡ 4 → length h.certificate ≡ 4 → length h.doctype ≡ 2 → length h.perimeter ≡ 2 → length h.country ≡ 2 → x ≡ over (header_chars v h) old → take (size v) x ≡ header_chars v h
+in_front v h old x la lb lt lp lc e = ap (take (size v)) e ∙ take_at (header_chars v h) (drop (length (header_chars v h)) old) (size v) (chars_long v h la lb lt lp lc)

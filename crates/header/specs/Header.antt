@@ -140,6 +140,6 @@ kept_by (refused k p) h = h
 abbrev pub the_parts : Header → Header
 the_parts h = kept_by (version_of (get_or h.version 0 0) (get_or h.version 1 0)) h
 
--- a refused header is nothing but zeros
+-- a header of zeros: what the C interface gives where a text is refused
 abbrev pub no_header : Header
 no_header = record { version = blank; authority = replicate 4 0; certificate = replicate 4 0; issue_day = 0; signing_day = 0; doctype = blank; perimeter = blank; country = blank }

@@ -18,11 +18,11 @@ use Rattle.refusal.specs.Limits.{limit, most_fields}
 use Rattle.refusal.specs.Among.{among}
 use Rattle.refusal.proofs.Tests.{by_test}
 use Rattle.refusal.proofs.Binds.{never, not_refused, same_good, clash}
+use Rattle.std.specs.Prelude.{Some}
 use Rattle.dictionary.specs.Dictionary.{Dictionary, Numbered, allowed, find, row_at, listed, distinct, rows_of}
 use Rattle.dictionary.specs.Rows.{row, rows}
 use Rattle.dictionary.specs.declared.Kind.{Kind}
 use Rattle.dictionary.specs.declared.Kind.TheVariants.{Numeric, Alphabetic}
-use Rattle.dictionary.specs.declared.Greatest.TheVariants.{UpTo}
 use Rattle.dictionary.specs.declared.Row.{Row}
 use Rattle.dictionary.specs.declared.Field.{Field}
 use Rattle.dictionary.proofs.Rows.{rows_distinct}
@@ -280,7 +280,7 @@ rows_same more s room t x e =
 
 -- a row for the identifier ZZ, of one digit or of one letter
 abbrev zz : Kind → Row
-zz k = row 90 90 1 (UpTo 1) k
+zz k = row 90 90 1 (Some 1) k
 
 -- A ROW PUT IN AMONG OUR OWN, so that most of them change their numbers: all that is to be shown is computed
 abbrev among_them : Dictionary

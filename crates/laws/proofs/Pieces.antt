@@ -12,9 +12,9 @@ use borrow.Author.Tests.{leb-true, le-leb, eqb-true, eqb-false}
 use Rattle.refusal.specs.Answers.{good}
 use Rattle.refusal.proofs.Tests.{by_test}
 use Rattle.refusal.proofs.Binds.{never, same_good}
+use Rattle.std.specs.declared.option.Option.{Option}
+use Rattle.std.specs.Prelude.{Some, None}
 use Rattle.dictionary.specs.Dictionary.{is_greatest, allowed, fixed, full}
-use Rattle.dictionary.specs.declared.Greatest.{Greatest}
-use Rattle.dictionary.specs.declared.Greatest.TheVariants.{UpTo, NoLimit}
 use Rattle.dictionary.specs.declared.Row.{Row}
 use Rattle.text.specs.declared.Does.{Does}
 use Rattle.text.specs.declared.Does.TheVariants.{More, Ends, Cuts, Follows, Wrong}
@@ -66,16 +66,16 @@ does_follows r chars c e =
     λ _ q. by_test (allowed r chars c) _ _ _ q (λ a q. cc) λ _ q. cc
 
 -- one more character stays within the limit, where it was not reached
-pub within_more : (m : Greatest) (n : ℕ) → within m n ≡ true → is_greatest m n ≡ false → within m (suc n) ≡ true
-within_more (UpTo k) n w f =
+pub within_more : (m : Option ℕ) (n : ℕ) → within m n ≡ true → is_greatest m n ≡ false → within m (suc n) ≡ true
+within_more (Some k) n w f =
     let a : n ≤ k = leb-true n k w in
     let b : n ≡ k → ⊥ = eqb-false n k f in
     le-leb (suc n) k (omega arith)
-within_more NoLimit n w f = refl
+within_more None n w f = refl
 
-pub within_nil : (m : Greatest) → within m 0 ≡ true
-within_nil (UpTo k) = le-leb 0 k (omega arith)
-within_nil NoLimit = refl
+pub within_nil : (m : Option ℕ) → within m 0 ≡ true
+within_nil (Some k) = le-leb 0 k (omega arith)
+within_nil None = refl
 
 -- THE DATA READ, with what ends them, stand at the front, and may be written
 pub record Stands (r : Row) (chars : List ℕ) (p : ℕ) (l : List ℕ) (x : Piece) : Type 0 where

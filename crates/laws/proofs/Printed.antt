@@ -13,9 +13,11 @@ use Rattle.optimum.proofs.Symbols.{read_of}
 use Rattle.optimum.proofs.Unique.{one_best}
 use Rattle.galois.specs.Polynomial.{Right, Bytes}
 use Rattle.check_words.specs.Sizes.{most_data, check_count}
-use Rattle.check_words.specs.Answers.{words_of, answered, Left, Listed, Promised}
-use Rattle.check_words.specs.declared.Listing.{Listing}
-use Rattle.check_words.specs.declared.Listing.TheVariants.{Words}
+use Rattle.std.specs.Prelude.{Ok}
+use Rattle.std.specs.declared.result.Result.{Result}
+use Rattle.refusal.specs.declared.Refusal.{Refusal}
+use Rattle.refusal.proofs.Said.{says_one}
+use Rattle.check_words.specs.Answers.{words_of, Left, Listed, Promised}
 use Rattle.check_words.proofs.Sizes.{small}
 use Rattle.check_words.proofs.Answers.{bytes_of, in_room}
 use Rattle.check_words.proofs.Only.{check_only}
@@ -33,9 +35,9 @@ pub record Printed (t : List ℕ) (largest : ℕ) (list : List ℕ) : Type 0 whe
 
 module _ (t : List ℕ) (largest : ℕ) where
   -- printing the symbol of the text answers the words of such a list, and leaves it at the front of the lent one
-  pub printed : (ws old new : List ℕ) (r : Listing) → Best t largest ws → length ws ≤ most_data → length ws + check_count (length ws) ≤ length old
-      → Promised ws old new r → (r ≡ Words (length ws + check_count (length ws))) × Printed t largest (take (length ws + check_count (length ws)) new)
-  printed ws old new r B single room p = (p.0 ∙ ap answered good_answer, front (subst (λ (a : Answer ℕ). Left a ws old new) good_answer p.1))
+  pub printed : (ws old new : List ℕ) (r : Result ℕ Refusal) → Best t largest ws → length ws ≤ most_data → length ws + check_count (length ws) ≤ length old
+      → Promised ws old new r → (r ≡ Ok (length ws + check_count (length ws))) × Printed t largest (take (length ws + check_count (length ws)) new)
+  printed ws old new r B single room p = (says_one r (Ok (length ws + check_count (length ws))) (p.0 ∙ good_answer), front (subst (λ (a : Answer ℕ). Left a ws old new) good_answer p.1))
     where
       good_answer : words_of (length ws) (length old) ≡ good (length ws + check_count (length ws))
       good_answer = in_room (length ws) (length old) (read_of t ws B.symbol).size single room

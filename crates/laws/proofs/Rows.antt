@@ -11,11 +11,11 @@ use borrow.Author.Tests.{leb-true, eqb-true, eq-eqb, ne_eqb, not-true}
 use Rattle.refusal.specs.Pick.{pick}
 use Rattle.refusal.specs.Answers.{good}
 use Rattle.refusal.proofs.Binds.{never, same_good, by_and, by_or, or_right, clash}
+use Rattle.std.specs.declared.option.Option.{Option}
+use Rattle.std.specs.Prelude.{Some, None}
 use Rattle.dictionary.specs.Dictionary.{Dictionary, in_kind, is_greatest, allowed, fixed, find, row_at, rows_of, listed, distinct}
 use Rattle.dictionary.specs.declared.Kind.{Kind}
 use Rattle.dictionary.specs.declared.Kind.TheVariants.{Numeric, Alphabetic, Alphanumeric}
-use Rattle.dictionary.specs.declared.Greatest.{Greatest}
-use Rattle.dictionary.specs.declared.Greatest.TheVariants.{UpTo, NoLimit}
 use Rattle.dictionary.specs.declared.Row.{Row}
 use Rattle.dictionary.specs.declared.Field.{Field}
 use Rattle.text.specs.Text.{within}
@@ -69,20 +69,20 @@ unfolding allowed
 allowed_plain r chars c e = kind_plain r.kind c e
 
 -- a fixed field's data are full
-fixed_at : (m : Greatest) (l n : ℕ) → within m n ≡ true → l ≤ n → is_greatest m l ≡ true → is_greatest m n ≡ true
-fixed_at (UpTo k) l n w h e =
+fixed_at : (m : Option ℕ) (l n : ℕ) → within m n ≡ true → l ≤ n → is_greatest m l ≡ true → is_greatest m n ≡ true
+fixed_at (Some k) l n w h e =
     let a : l ≡ k = eqb-true l k e in
     let b : n ≤ k = leb-true n k w in
     eq-eqb n k (omega arith)
-fixed_at NoLimit l n w h e = e
+fixed_at None l n w h e = e
 
 pub fixed_full : (r : Row) (n : ℕ) → within r.greatest n ≡ true → r.least ≤ n → fixed r ≡ true → is_greatest r.greatest n ≡ true
 fixed_full r n w h e = fixed_at r.greatest r.least n w h e
 
 -- below the limit it is not reached
-pub not_yet : (m : Greatest) (k n : ℕ) → within m n ≡ true → suc k ≤ n → is_greatest m k ≡ false
-not_yet (UpTo j) k n w h = let b : n ≤ j = leb-true n j w in ne_eqb k j (λ e. omega (arith, e))
-not_yet NoLimit k n w h = refl
+pub not_yet : (m : Option ℕ) (k n : ℕ) → within m n ≡ true → suc k ≤ n → is_greatest m k ≡ false
+not_yet (Some j) k n w h = let b : n ≤ j = leb-true n j w in ne_eqb k j (λ e. omega (arith, e))
+not_yet None k n w h = refl
 
 -- one more row at the end
 pub rows_snoc : (l m : List Field) (f g : Field) → rows_of l ≡ rows_of m → f.row ≡ g.row → rows_of (l ++ (f ∷ [])) ≡ rows_of (m ++ (g ∷ []))

@@ -20,20 +20,20 @@ use Rattle.optimum.specs.Cost.{digit, base, chars, pairs, before, cost}
 use Rattle.optimum.specs.Write as Write
 use Rattle.optimum.specs.Write.{odd, next, third, move, write, choose}
 use Rattle.optimum.proofs.Top.{right}
+use Rattle.std.specs.Prelude.{Some}
 use Rattle.dictionary.specs.Dictionary.{Dictionary, allowed, find}
 use Rattle.dictionary.specs.declared.Kind.TheVariants.{Numeric, Alphabetic, Alphanumeric}
-use Rattle.dictionary.specs.declared.Greatest.TheVariants.{UpTo}
 use Rattle.dictionary.specs.declared.Field.{Field}
 use Rattle.text.specs.Zone.{does, read_data, zone}
 
 -- 6Q, 6W, 6X, 6Y, 6Z, as the paper gives them here
 abbrev five : Dictionary
 five =
-    record { first = 54; second = 81; least = 0; greatest = UpTo 10; kind = Alphanumeric }
-    ∷ record { first = 54; second = 87; least = 5; greatest = UpTo 5; kind = Numeric }
-    ∷ record { first = 54; second = 88; least = 0; greatest = UpTo 32; kind = Alphabetic }
-    ∷ record { first = 54; second = 89; least = 2; greatest = UpTo 2; kind = Alphabetic }
-    ∷ record { first = 54; second = 90; least = 9; greatest = UpTo 11; kind = Alphanumeric }
+    record { first = 54; second = 81; least = 0; greatest = Some 10; kind = Alphanumeric }
+    ∷ record { first = 54; second = 87; least = 5; greatest = Some 5; kind = Numeric }
+    ∷ record { first = 54; second = 88; least = 0; greatest = Some 32; kind = Alphabetic }
+    ∷ record { first = 54; second = 89; least = 2; greatest = Some 2; kind = Alphabetic }
+    ∷ record { first = 54; second = 90; least = 9; greatest = Some 11; kind = Alphanumeric }
     ∷ []
 
 abbrev field : (row start length : ℕ) → Field

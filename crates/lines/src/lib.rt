@@ -2,7 +2,7 @@
 
 #![tactic(auto)]
 
-ghost use Rattle.std.specs.Prelude.{◌≡◌, [], ◌∷◌, ◌+◌, ◌≤◌, ◌<◌, length};
+ghost use Rattle.std.specs.Prelude.{◌≡◌, ◌+◌, ◌≤◌, ◌++◌, length};
 ghost use Rattle.refusal.specs.Over.{over};
 ghost use Rattle.day_file.specs.Pieces.{put_at};
 ghost use Rattle.lines.specs.Lines.{page, decimal, refused_name, name_of, line_of, lines_of, file_line};
@@ -11,29 +11,36 @@ ghost use Rattle.lines.specs.Lines.{page, decimal, refused_name, name_of, line_o
 pub const PAGE: usize = 6144;
 
 // A word from `at` on; where it ends.
+#[tactic(auto, using(day_file::proofs::Putting::part_put))]
 fn put_word(out: &mut [u8], at: usize, word: &[u8]) -> usize
     requires { at + length word.now ≤ length out.old }
     ensures end { result ≡ at + length word.now }
     ensures lent { out.new ≡ put_at out.old at word.now }
 {
-    let n = word.len();
-    refusal::copy(word, &mut out[at..], n);
-    at + n
+    let end = at + word.len();
+    out[at..end].copy_from_slice(word);
+    end
 }
 
 // A number's digits from `at` on; where they end.
+#[tactic(auto, using(crate::proofs::Decimal::printed))]
 fn put_decimal(out: &mut [u8], at: usize, n: u64) -> usize
     requires { at + length (decimal n) ≤ length out.old }
     ensures end { result ≡ at + length (decimal n) }
     ensures lent { out.new ≡ put_at out.old at (decimal n) }
 {
-    if n < 10 {
-        out[at] = 48 + n as u8;
-        return at + 1;
-    }
-    let end = put_decimal(out, at, n / 10);
-    out[end] = 48 + (n % 10) as u8;
-    end + 1
+    put_word(out, at, itoa::Buffer::new().format(n).as_bytes())
+}
+
+// A number's digits and a word behind them, from `at` on; where the word ends.
+#[tactic(auto, using(crate::proofs::Joined::next_put))]
+fn put_number(out: &mut [u8], at: usize, n: u64, behind: &[u8]) -> usize
+    requires { at + length (decimal n ++ behind.now) ≤ length out.old }
+    ensures end { result ≡ at + length (decimal n ++ behind.now) }
+    ensures lent { out.new ≡ put_at out.old at (decimal n ++ behind.now) }
+{
+    let end = put_decimal(out, at, n);
+    put_word(out, end, behind)
 }
 
 // What the count of a slot is called, from `at` on; where the name ends.
@@ -55,28 +62,27 @@ fn put_name(out: &mut [u8], at: usize, slot: usize) -> usize
 }
 
 // The word, a refusal's number and a space.
+#[tactic(auto, using(crate::proofs::Joined::next_put))]
 fn put_refused(out: &mut [u8], at: usize, number: usize) -> usize
     requires { at + length (refused_name number) ≤ length out.old }
     ensures end { result ≡ at + length (refused_name number) }
     ensures lent { out.new ≡ put_at out.old at (refused_name number) }
 {
-    let a = put_word(out, at, b"refused ");
-    let b = put_decimal(out, a, number as u64);
-    put_word(out, b, b" ")
+    let end = put_word(out, at, b"refused ");
+    put_number(out, end, number as u64, b" ")
 }
 
-// The line of a count above zero.
+// The line of a count, from `at` on; where it ends. A count of zero has none.
 fn put_line(out: &mut [u8], at: usize, slot: usize, count: u32) -> usize
     requires { at + length (line_of slot count) ≤ length out.old }
     ensures end { result ≡ at + length (line_of slot count) }
     ensures lent { out.new ≡ put_at out.old at (line_of slot count) }
 {
-    if count < 1 {
+    if count == 0 {
         return at;
     }
-    let a = put_name(out, at, slot);
-    let b = put_decimal(out, a, count as u64);
-    put_word(out, b, b"\n")
+    let end = put_name(out, at, slot);
+    put_number(out, end, u64::from(count), b"\n")
 }
 
 // The lines of 262 counts; their length.
@@ -87,10 +93,8 @@ pub fn put_counts(out: &mut [u8], counts: &[u32]) -> usize
     ensures small { result ≤ page }
 {
     let mut at = 0;
-    let mut i = 0;
-    while i < counts.len() {
-        at = put_line(out, at, i, counts[i]);
-        i += 1;
+    for (slot, &count) in counts.iter().enumerate() {
+        at = put_line(out, at, slot, count);
     }
     at
 }
@@ -102,9 +106,7 @@ pub fn put_file(out: &mut [u8], place: u64, number: u8) -> usize
     ensures lent { out.new ≡ over (file_line place number) out.old }
     ensures small { result ≤ page }
 {
-    let a = put_word(out, 0, b"file ");
-    let b = put_decimal(out, a, place);
-    let c = put_word(out, b, b" refused ");
-    let d = put_decimal(out, c, number as u64);
-    put_word(out, d, b"\n")
+    let at = put_word(out, 0, b"file ");
+    let at = put_number(out, at, place, b" refused ");
+    put_number(out, at, u64::from(number), b"\n")
 }

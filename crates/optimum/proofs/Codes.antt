@@ -4,15 +4,15 @@
 use Prim.Native.Nat.{ℕ, suc, ◌+◌, ◌-◌, ◌*◌, ◌/◌, ◌%◌, ◌≤◌, ◌<◌}
 use mathlib.Core.Bool.{true, false}
 use mathlib.Core.List.{[], ◌∷◌}
-use mathlib.Core.Path.{◌≡◌, ◌∙◌}
+use mathlib.Core.Path.{◌≡◌, ap, ◌∙◌}
 use native.Mathlib.Omega.{arith}
 use native.Mathlib.Nat.{div-div-eq-div-mul}
 use lib.Dec.{ltb, leb, eqb}
 use borrow.Author.Tests.{ltb-true, ltb-false, leb-true, leb-false, eqb-true, eqb-false, lt-ltb, le-ltb, le-leb, lt-leb, ne_eqb}
+use Rattle.std.specs.Prelude.{Option, Some}
 use Rattle.refusal.proofs.Tests.{clash, by_test}
 use Rattle.codeword.specs.declared.Ascii.TheVariants.{One, Two, Latch}
 use Rattle.codeword.specs.declared.Lone.TheVariants.{Ends, Last}
-use Rattle.codeword.specs.declared.Pair.TheVariants.{Three}
 use Rattle.codeword.specs.Meanings.{ascii, lone, pair}
 use Rattle.optimum.specs.Cost.{digit}
 use Rattle.optimum.specs.Write.{pack}
@@ -57,7 +57,7 @@ lone_last c h =
 
 -- three values make a pair, whose first codeword is not 254
 module _ (x y z : ℕ) (hx : x < 40) (hy : y < 40) (hz : z < 40) where
-  pub pair_of : pair (pack x y z / 256) (pack x y z % 256) ≡ Three x y z
+  pub pair_of : pair (pack x y z / 256) (pack x y z % 256) ≡ Some (x, y, z)
   unfolding pair
   pair_of =
       let v : ℕ = pack x y z in
@@ -149,7 +149,7 @@ pub record Packed (a b x y z : ℕ) : Type 0 where
   pub is : 256 * a + b ≡ pack x y z
   pub low : a ≤ 250
 
-pub is_three : (a b x y z : ℕ) → pair a b ≡ Three x y z → Packed a b x y z
+pub is_three : (a b x y z : ℕ) → pair a b ≡ Some (x, y, z) → Packed a b x y z
 unfolding pair
 is_three a b x y z e =
     by_test (eqb (256 * a + b) 0) _ _ _ e (λ t q. clash cc) λ f e.
@@ -157,11 +157,13 @@ is_three a b x y z e =
   where
     values :
         (256 * a + b ≡ 0 → ⊥) → 256 * a + b ≤ 64000 →
-        Three ((256 * a + b - 1) / 1600) ((256 * a + b - 1) / 40 % 40) ((256 * a + b - 1) % 40) ≡ Three x y z → Packed a b x y z
+        ◌≡◌ {A = Option (ℕ × ℕ × ℕ)} (Some ((256 * a + b - 1) / 1600, (256 * a + b - 1) / 40 % 40, (256 * a + b - 1) % 40)) (Some (x, y, z)) →
+        Packed a b x y z
     values n h q =
         let v : ℕ = 256 * a + b - 1 in
-        let p₁ : v / 1600 ≡ x = cc in
-        let p₂ : v / 40 % 40 ≡ y = cc in
-        let p₃ : v % 40 ≡ z = cc in
+        let same : ◌≡◌ {A = ℕ × ℕ × ℕ} (v / 1600, v / 40 % 40, v % 40) (x, y, z) = cc in
+        let p₁ : v / 1600 ≡ x = ap (λ (w : ℕ × ℕ × ℕ). w.0) same in
+        let p₂ : v / 40 % 40 ≡ y = ap (λ (w : ℕ × ℕ × ℕ). w.1) same in
+        let p₃ : v % 40 ≡ z = ap (λ (w : ℕ × ℕ × ℕ). w.2) same in
         let r : v / 40 / 40 ≡ x = div-div-eq-div-mul v 40 40 ∙ p₁ in
         record { first = omega arith; second = omega arith; third = omega arith; is = omega arith; low = omega arith }

@@ -8,6 +8,7 @@ use mathlib.Core.Path.{◌≡◌, refl, ap}
 use native.Mathlib.Omega.{arith}
 use lib.Dec.{eqb}
 use lib.ListN.{length}
+use Rattle.std.specs.Prelude.{Option, Some, None}
 use Rattle.refusal.specs.Pick.{pick}
 use Rattle.refusal.proofs.Tests.{clash}
 use Rattle.codeword.specs.declared.Set.{Set}
@@ -18,8 +19,6 @@ use Rattle.codeword.specs.declared.Ascii.{Ascii}
 use Rattle.codeword.specs.declared.Ascii.TheVariants.{One, Two, Latch, Pad, Wrong}
 use Rattle.codeword.specs.declared.Lone.{Lone}
 use Rattle.codeword.specs.declared.Lone.TheVariants.{Ends, Last, Bad}
-use Rattle.codeword.specs.declared.Pair.{Pair}
-use Rattle.codeword.specs.declared.Pair.TheVariants.{Three, Outside}
 use Rattle.codeword.specs.Meanings.{ascii, lone, pair, value, unfinished}
 use Rattle.codeword.specs.Reading.{Reading, good, refused, cons, Step, end, refuse, behind, give, put, finish, on_ascii, on_lone, on_pair, Mode, in_ascii, in_c40, read}
 use Rattle.optimum.proofs.Accepted.{Ticked, from_tick, ticked}
@@ -82,10 +81,10 @@ has_lone Ends = has_end 1 1 false refl
 has_lone (Last c) = has_give c (has_end 1 1 false refl)
 has_lone Bad = has_none 1 _
 
-has_pair : {l : ℕ} (x : Pair) (s : Set) {k : Set → Step} → ((s : Set) → Has l (k s)) → Has (suc (suc l)) (on_pair x s k)
-has_pair (Three x y z) s h =
+has_pair : {l : ℕ} (x : Option (ℕ × ℕ × ℕ)) (s : Set) {k : Set → Step} → ((s : Set) → Has l (k s)) → Has (suc (suc l)) (on_pair x s k)
+has_pair (Some (x, y, z)) s h =
     has_put (value s x) λ s₁. has_put (value s₁ y) λ s₂. has_put (value s₂ z) λ s₃. has_behind (has_behind (h s₃))
-has_pair {l} Outside s h = has_none (suc (suc l)) _
+has_pair {l} None s h = has_none (suc (suc l)) _
 
 pub counted : (ws : List ℕ) (m : Mode) → Has (length ws) (read ws m)
 unfolding read

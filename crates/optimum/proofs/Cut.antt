@@ -8,6 +8,7 @@ use mathlib.Core.Path.{◌≡◌, refl, ap, ◌∙◌}
 use lib.Dec.{leb, eqb}
 use lib.ListN.{take, get_or}
 use borrow.Author.Tests.{eqb-true}
+use Rattle.std.specs.Prelude.{Option, Some, None}
 use Rattle.refusal.specs.Pick.{pick}
 use Rattle.refusal.proofs.Tests.{clash}
 use Rattle.codeword.specs.declared.Set.{Set}
@@ -18,8 +19,6 @@ use Rattle.codeword.specs.declared.Ascii.{Ascii}
 use Rattle.codeword.specs.declared.Ascii.TheVariants.{One, Two, Latch, Pad, Wrong}
 use Rattle.codeword.specs.declared.Lone.{Lone}
 use Rattle.codeword.specs.declared.Lone.TheVariants.{Ends, Last, Bad}
-use Rattle.codeword.specs.declared.Pair.{Pair}
-use Rattle.codeword.specs.declared.Pair.TheVariants.{Three, Outside}
 use Rattle.codeword.specs.Meanings.{ascii, lone, pair, value, unfinished}
 use Rattle.codeword.specs.Reading.{Reading, good, refused, cons, tick, Step, end, refuse, behind, give, put, finish, on_ascii, on_lone, on_pair, Mode, in_ascii, in_c40, read}
 
@@ -92,9 +91,9 @@ module _ {P : Type 0} where
   gives_ascii Pad ha hl = λ r t e. clash cc
   gives_ascii {n} Wrong ha hl = gives_refuse (suc n) _
 
-  gives_values : {n : ℕ} (x : Pair) (s : Set) (k : Set → Step) → ((s : Set) → Gives n (behind (behind (k s))) P) → Gives n (on_pair x s k) P
-  gives_values (Three x y z) s k h = gives_put (value s x) λ s₁. gives_put (value s₁ y) λ s₂. gives_put (value s₂ z) h
-  gives_values {n} Outside s k h = gives_refuse n _
+  gives_values : {n : ℕ} (x : Option (ℕ × ℕ × ℕ)) (s : Set) (k : Set → Step) → ((s : Set) → Gives n (behind (behind (k s))) P) → Gives n (on_pair x s k) P
+  gives_values (Some (x, y, z)) s k h = gives_put (value s x) λ s₁. gives_put (value s₁ y) λ s₂. gives_put (value s₂ z) h
+  gives_values {n} None s k h = gives_refuse n _
 
 -- SAME
 same_end : (n k : ℕ) (b : Bool) → Same n (end k b) (end k b)
@@ -144,10 +143,10 @@ first_pad Latch a l = same_never _ (gives_first l)
 first_pad Pad a l = same_end 0 0 true
 first_pad Wrong a l = same_never _ (gives_refuse 0 _)
 
-same_pair : {n : ℕ} (x : Pair) (s : Set) {k k' : Set → Step} → ((s : Set) → Same n (k s) (k' s)) → Same (suc (suc n)) (on_pair x s k) (on_pair x s k')
-same_pair (Three x y z) s h =
+same_pair : {n : ℕ} (x : Option (ℕ × ℕ × ℕ)) (s : Set) {k k' : Set → Step} → ((s : Set) → Same n (k s) (k' s)) → Same (suc (suc n)) (on_pair x s k) (on_pair x s k')
+same_pair (Some (x, y, z)) s h =
     same_put (value s x) λ s₁. same_put (value s₁ y) λ s₂. same_put (value s₂ z) λ s₃. same_behind (same_behind (h s₃))
-same_pair {n} Outside s h = same_refuse (suc (suc n)) _
+same_pair {n} None s h = same_refuse (suc (suc n)) _
 
 -- THE FIRST n CODEWORDS, and a pad behind them
 pub cut : (ws : List ℕ) (m : Mode) (n : ℕ) (ps : List ℕ) → Same n (read ws m) (read (take n ws ++ (129 ∷ ps)) m)

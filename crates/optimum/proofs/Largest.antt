@@ -11,6 +11,7 @@ use native.Mathlib.Omega.{arith}
 use lib.Dec.{ltb, eqb}
 use lib.ListN.{length, take}
 use borrow.Author.Tests.{ltb-true, ltb-false, eqb-true, le-leb}
+use Rattle.std.specs.Prelude.{Option, Some, None}
 use Rattle.refusal.specs.Pick.{pick}
 use Rattle.refusal.proofs.Tests.{clash}
 use Rattle.codeword.specs.declared.Set.{Set}
@@ -19,8 +20,6 @@ use Rattle.codeword.specs.declared.Ascii.{Ascii}
 use Rattle.codeword.specs.declared.Ascii.TheVariants.{One, Two, Latch, Pad, Wrong}
 use Rattle.codeword.specs.declared.Lone.{Lone}
 use Rattle.codeword.specs.declared.Lone.TheVariants.{Ends, Last, Bad}
-use Rattle.codeword.specs.declared.Pair.{Pair}
-use Rattle.codeword.specs.declared.Pair.TheVariants.{Three, Outside}
 use Rattle.codeword.specs.Meanings
 use Rattle.codeword.specs.Meanings.{ascii, lone, unfinished}
 use Rattle.codeword.specs.Reading.{Reading, good, refused, cons, tick, Step, end, behind, give, finish, on_ascii, on_lone, on_pair, Mode, in_ascii, in_c40, read}
@@ -218,11 +217,11 @@ in_c40_law b n s (a ∷ w ∷ ws) t bs hs e = go (eqb a 254) refl e
     back : a ≡ 254 → (unfinished s ≡ false) × (tick (read (w ∷ ws) in_ascii (length t)) ≡ good t (suc n) b) → Goal
     back q z = rw q (in_return b n s w ws t z.0 (untick (read (w ∷ ws) in_ascii (length t)) t n b z.1))
 
-    on : (p : Pair) → Meanings.pair a w ≡ p → on_pair p s (λ s'. read ws (in_c40 s')) (length t) ≡ good t (suc n) b → Goal
-    on (Three x y z) q p =
+    on : (p : Option (ℕ × ℕ × ℕ)) → Meanings.pair a w ≡ p → on_pair p s (λ s'. read ws (in_c40 s')) (length t) ≡ good t (suc n) b → Goal
+    on (Some (x, y, z)) q p =
         in_values b n s a w x y z ws t bs.1.0 hs (is_three a w x y z q)
         (from_values s x y z (λ s'. read ws (in_c40 s')) t (suc n) b p)
-    on Outside q p = clash cc
+    on None q p = clash cc
 
     go :
         (x : Bool) → eqb a 254 ≡ x →

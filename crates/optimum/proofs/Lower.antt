@@ -10,6 +10,7 @@ use mathlib.Core.Path.{◌≡◌, refl}
 use native.Mathlib.Omega.{arith}
 use lib.Dec.{eqb}
 use lib.ListN.{length}
+use Rattle.std.specs.Prelude.{Option, Some, None}
 use Rattle.refusal.specs.Pick.{pick}
 use Rattle.refusal.proofs.Tests.{clash}
 use Rattle.codeword.specs.declared.Set.{Set}
@@ -20,8 +21,6 @@ use Rattle.codeword.specs.declared.Ascii.{Ascii}
 use Rattle.codeword.specs.declared.Ascii.TheVariants.{One, Two, Latch, Pad, Wrong}
 use Rattle.codeword.specs.declared.Lone.{Lone}
 use Rattle.codeword.specs.declared.Lone.TheVariants.{Ends, Last, Bad}
-use Rattle.codeword.specs.declared.Pair.{Pair}
-use Rattle.codeword.specs.declared.Pair.TheVariants.{Three, Outside}
 use Rattle.codeword.specs.Meanings.{ascii, lone, pair, value, unfinished}
 use Rattle.codeword.specs.Reading.{good, Step, end, refuse, behind, give, put, finish, on_ascii, on_lone, on_pair, Mode, in_ascii, in_c40, read}
 use Rattle.codeword.specs.Characters.{set_of}
@@ -251,9 +250,9 @@ in_c40_law :
     Holds (in_c40 s) (pick (eqb a 254) (finish s (behind o)) (on_pair (pair a w) s k))
 in_c40_law s a w o k i ih = back (eqb a 254)
   where
-    go : (x : Pair) → pair a w ≡ x → Holds (in_c40 s) (on_pair x s k)
-    go (Three x y z) q = on_values s a w x y z (is_three a w x y z q) k ih
-    go Outside q = never (in_c40 s) _
+    go : (x : Option (ℕ × ℕ × ℕ)) → pair a w ≡ x → Holds (in_c40 s) (on_pair x s k)
+    go (Some (x, y, z)) q = on_values s a w x y z (is_three a w x y z q) k ih
+    go None q = never (in_c40 s) _
 
     back : (x : Bool) → Holds (in_c40 s) (pick x (finish s (behind o)) (on_pair (pair a w) s k))
     back true = finished s (behind o) (back_basic o i) (back_set1 o i)

@@ -8,6 +8,7 @@ use mathlib.Core.Path.{◌≡◌, refl, ap, ◌∙◌}
 use native.Mathlib.Omega.{arith}
 use lib.Dec.{eqb}
 use lib.ListN.{length}
+use Rattle.std.specs.Prelude.{Option, Some, None}
 use Rattle.refusal.specs.Pick.{pick}
 use Rattle.refusal.proofs.Tests.{clash}
 use Rattle.codeword.specs.declared.Set.{Set}
@@ -18,8 +19,6 @@ use Rattle.codeword.specs.declared.Ascii.{Ascii}
 use Rattle.codeword.specs.declared.Ascii.TheVariants.{One, Two, Latch, Pad, Wrong}
 use Rattle.codeword.specs.declared.Lone.{Lone}
 use Rattle.codeword.specs.declared.Lone.TheVariants.{Ends, Last, Bad}
-use Rattle.codeword.specs.declared.Pair.{Pair}
-use Rattle.codeword.specs.declared.Pair.TheVariants.{Three, Outside}
 use Rattle.codeword.specs.Meanings.{ascii, lone, pair, value, unfinished}
 use Rattle.codeword.specs.Reading.{Reading, good, refused, cons, tick, Step, end, refuse, behind, give, put, finish, on_ascii, on_lone, on_pair, Mode, in_ascii, in_c40, read}
 
@@ -86,10 +85,10 @@ in_lone Ends = in_end 1 false
 in_lone (Last c) = in_give c (in_end 1 false)
 in_lone Bad = in_refuse _
 
-in_pair : (x : Pair) (s : Set) {k : Set → Step} → ((s : Set) → Roomy (k s)) → Roomy (on_pair x s k)
-in_pair (Three x y z) s h =
+in_pair : (x : Option (ℕ × ℕ × ℕ)) (s : Set) {k : Set → Step} → ((s : Set) → Roomy (k s)) → Roomy (on_pair x s k)
+in_pair (Some (x, y, z)) s h =
     in_put (value s x) λ s₁. in_put (value s₁ y) λ s₂. in_put (value s₂ z) λ s₃. in_behind (in_behind (h s₃))
-in_pair Outside s h = in_refuse _
+in_pair None s h = in_refuse _
 
 pub roomy : (ws : List ℕ) (m : Mode) → Roomy (read ws m)
 unfolding read

@@ -1,30 +1,15 @@
--- A number that is looked for in a list, place by place: it stands here, further on, or nowhere. And what is among the numbers of
--- a list is the first of them or among the others. By cases on the test.
+-- What is among the numbers of a list is the first of them or among the others, and the library's search finds it. By cases on the test.
 -- Assumes nothing.
-use Prim.Native.Nat.{ℕ, ◌+◌, ◌≤◌, ◌<◌}
+use Prim.Native.Nat.{ℕ}
 use mathlib.Core.Bool.{Bool, true, false, ◌||◌}
 use mathlib.Core.List.{List, [], ◌∷◌}
-use mathlib.Core.Path.{◌≡◌, refl}
-use native.Mathlib.Numerals.{add-one}
+use mathlib.Core.Path.{◌≡◌, refl, sym}
 use lib.Dec.{eqb}
-use lib.ListN.{length, get_or, drop, drop_of_length-le}
-use lib.Seq.{drop-cons}
-use borrow.Author.Tests.{eq-eqb, ne_eqb, eqb-true}
+use borrow.Author.Tests.{eq-eqb, ne_eqb, eqb-true, eqb-false}
+use Rattle.std.specs.Prelude.{◌==◌}
+use Rattle.std.specs.List.{list_any}
 use Rattle.refusal.specs.Among.{among}
 use Rattle.refusal.proofs.Binds.{clash}
-
-module _ (n : ℕ) (l : List ℕ) where
-  pub among_here : (i : ℕ) → i < length l → n ≡ get_or l i 0 → true ≡ among n (drop i l)
-  unfolding among
-  among_here i h e = rw (drop-cons l i 0 h, eq-eqb n (get_or l i 0) e)
-
-  pub among_next : (i : ℕ) → i < length l → (n ≡ get_or l i 0 → ⊥) → among n (drop (i + 1) l) ≡ among n (drop i l)
-  unfolding among
-  among_next i h e = rw (add-one i, drop-cons l i 0 h, ne_eqb n (get_or l i 0) e)
-
-  pub among_none : (i : ℕ) → length l ≤ i → false ≡ among n (drop i l)
-  unfolding among
-  among_none i h = rw (drop_of_length-le l {i = i} h)
 
 pub nowhere : (n : ℕ) → among n [] ≡ true → ⊥
 unfolding among
@@ -50,3 +35,16 @@ module _ (n m : ℕ) (l : List ℕ) where
       go : (x : Bool) → eqb n m ≡ x → (x || among n l) ≡ true → P
       go true q _ = f (eqb-true n m q)
       go false _ r = g r
+
+turned_round : (m n : ℕ) → eqb m n ≡ eqb n m
+turned_round m n = go (eqb m n) refl
+  where
+    go : (b : Bool) → eqb m n ≡ b → b ≡ eqb n m
+    go true e = sym (eq-eqb n m (sym (eqb-true m n e)))
+    go false e = sym (ne_eqb n m (λ q. eqb-false m n e (sym q)))
+
+-- the library's search, whose test has its sides the other way round
+pub any_among : (n : ℕ) (l : List ℕ) → list_any (λ y. y == n) l ≡ among n l
+unfolding among
+any_among n [] = refl
+any_among n (m ∷ l) = rw (turned_round m n, any_among n l)

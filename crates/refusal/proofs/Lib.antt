@@ -4,3 +4,4 @@ pub mod Binds
 pub mod Over
 pub mod Chars
 pub mod Among
+pub mod Said

@@ -6,3 +6,4 @@ pub mod Over
 pub mod Chars
 pub mod Among
 pub mod Classes
+pub mod Said

@@ -1,6 +1,5 @@
--- The numbers of document 01's table and of document 02's requests, by name, and a refusal with its place.
+-- The numbers of document 01's table and of document 02's requests, by name.
 use Rattle.std.specs.Prelude.{ℕ}
-use Rattle.refusal.specs.declared.Refusal.{Refusal}
 
 -- codeword count is no capacity
 abbrev pub count_no_capacity : ℕ
@@ -153,6 +152,3 @@ count_full = 38
 -- a pad that is not what the padding rule gives
 abbrev pub wrong_pad : ℕ
 wrong_pad = 39
-
-abbrev pub refusal : (number place : ℕ) → Refusal
-refusal n p = record { number = n; place = p }

@@ -1,116 +1,95 @@
-// What every layer refuses with: a number of document 01's table, by name, and a place in the input. And the limits.
+// What every layer refuses with: a reason, which has its number in document 01's table, and a place in the input. And the limits.
 
 #![tactic(auto)]
 
-ghost use Rattle.std.specs.Prelude.{◌≡◌, ◌++◌, ◌≤◌, length, take, drop};
-ghost use Rattle.refusal.specs.Numbers.{refusal};
+ghost use Rattle.std.specs.Prelude.{◌≡◌, ◌++◌, ◌≤◌, length, take, drop, Some};
+ghost use Rattle.refusal.specs.Said.{number_of, shown};
 
-#[derive(Clone, Copy)]
-pub struct Refusal {
-    pub number: u8,
-    pub place: usize,
+use std::error::Error;
+use std::fmt;
+
+// Why an input is refused, by the numbers of the tables.
+#[derive(Clone, Copy, Debug, PartialEq, Eq)]
+pub enum Reason {
+    CountNoCapacity = 1,
+    ForbiddenCodeword = 2,
+    PairOutside = 3,
+    WrongValue = 4,
+    TextTooLong = 5,
+    LentTooShort = 6,
+    CharacterAbove127 = 7,
+    LargestNoCapacity = 8,
+    NoSizeFits = 9,
+    HeaderTooShort = 10,
+    NotDc = 11,
+    UnknownVersion = 12,
+    WrongHeaderCharacter = 13,
+    WrongPerimeter = 14,
+    NoMark = 15,
+    UnknownIdentifier = 16,
+    ZoneEndsInside = 17,
+    WrongCharacter = 18,
+    DataTooShort = 19,
+    IdentifierRepeated = 20,
+    SignatureLength = 21,
+    SignatureCharacter = 22,
+    SpareBits = 23,
+    Annex = 24,
+    DataTooLong = 25,
+    FixedCut = 26,
+    TooManyFields = 27,
+    TypeNotCovered = 28,
+    IdentifierMissing = 29,
+    IdentifierNotPermitted = 30,
+    BadRecord = 31,
+    SeveralBlocks = 32,
+    NoneNear = 34,
+    BadFile = 35,
+    FileFull = 36,
+    NoScan = 37,
+    CountFull = 38,
+    WrongPad = 39,
 }
 
-// No refusal: 0 is the number of none.
-pub fn accepted() -> Refusal
-    ensures { result ≡ refusal 0 0 }
-{
-    Refusal {
-        number: 0,
-        place: 0,
+impl Reason {
+    pub fn number(self) -> u8
+        ensures { result ≡ number_of self }
+    {
+        self as u8
+    }
+
+    // The refusal for this reason at a place.
+    pub fn at(self, place: usize) -> Refusal
+        ensures { result ≡ record { reason = self; place = place } }
+    {
+        Refusal {
+            reason: self,
+            place,
+        }
     }
 }
 
-pub const COUNT_NO_CAPACITY: u8 = 1;
+// An input was refused: why, and at which place of it.
+#[derive(Clone, Copy, Debug, PartialEq, Eq)]
+pub struct Refusal {
+    pub reason: Reason,
+    pub place: usize,
+}
 
-pub const FORBIDDEN_CODEWORD: u8 = 2;
+impl fmt::Display for Refusal {
+    ghost output = { λ w. Some (shown w) };
 
-pub const PAIR_OUTSIDE: u8 = 3;
+    fn fmt<W: fmt::Write>(&self, f: &mut fmt::Formatter<W>) -> fmt::Result {
+        let number = self.reason.number();
+        let place = self.place;
+        write!(f, "refused {number} at place {place}")
+    }
+}
 
-pub const WRONG_VALUE: u8 = 4;
-
-pub const TEXT_TOO_LONG: u8 = 5;
-
-pub const LENT_TOO_SHORT: u8 = 6;
-
-pub const CHARACTER_ABOVE_127: u8 = 7;
-
-pub const LARGEST_NO_CAPACITY: u8 = 8;
-
-pub const NO_SIZE_FITS: u8 = 9;
-
-pub const HEADER_TOO_SHORT: u8 = 10;
-
-pub const NOT_DC: u8 = 11;
-
-pub const UNKNOWN_VERSION: u8 = 12;
-
-pub const WRONG_HEADER_CHARACTER: u8 = 13;
-
-pub const WRONG_PERIMETER: u8 = 14;
-
-pub const NO_MARK: u8 = 15;
-
-pub const UNKNOWN_IDENTIFIER: u8 = 16;
-
-pub const ZONE_ENDS_INSIDE: u8 = 17;
-
-pub const WRONG_CHARACTER: u8 = 18;
-
-pub const DATA_TOO_SHORT: u8 = 19;
-
-pub const IDENTIFIER_REPEATED: u8 = 20;
-
-pub const SIGNATURE_LENGTH: u8 = 21;
-
-pub const SIGNATURE_CHARACTER: u8 = 22;
-
-pub const SPARE_BITS: u8 = 23;
-
-pub const ANNEX: u8 = 24;
-
-pub const DATA_TOO_LONG: u8 = 25;
-
-pub const FIXED_CUT: u8 = 26;
-
-pub const TOO_MANY_FIELDS: u8 = 27;
-
-pub const TYPE_NOT_COVERED: u8 = 28;
-
-pub const IDENTIFIER_MISSING: u8 = 29;
-
-pub const IDENTIFIER_NOT_PERMITTED: u8 = 30;
-
-pub const BAD_RECORD: u8 = 31;
-
-pub const SEVERAL_BLOCKS: u8 = 32;
-
-pub const NONE_NEAR: u8 = 34;
-
-pub const BAD_FILE: u8 = 35;
-
-pub const FILE_FULL: u8 = 36;
-
-pub const NO_SCAN: u8 = 37;
-
-pub const COUNT_FULL: u8 = 38;
-
-pub const WRONG_PAD: u8 = 39;
+impl Error for Refusal {}
 
 // A text has at most 1,000 characters.
 pub const LIMIT: usize = 1000;
 
 // A message has at most 64 fields.
 pub const MOST_FIELDS: usize = 64;
-
-// The first n of the one over the first n of the other.
-pub fn copy(from: &[u8], to: &mut [u8], n: usize)
-    requires { (n ≤ length from.now) × (n ≤ length to.old) }
-    ensures { to.new ≡ take n from.now ++ drop n to.old }
-{
-    let mut i = 0;
-    while i < n {
-        to[i] = from[i];
-        i += 1;
-    }
-}

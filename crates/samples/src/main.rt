@@ -1,88 +1,48 @@
-// Runs the samples of document 01, and the published examples that stand in the file stdin, and prints what comes out; the file stdout has what must
-// come out.
+// Runs the samples of the specification, and the published examples that stand in the file stdin, and prints what comes out; the file stdout has what
+// must come out.
 
 #![tactic(auto)]
 
-ghost use Rattle.std.specs.Prelude.{◌≡◌, ◌<◌, ◌≤◌, length};
-ghost use Rattle.refusal.specs.Limits.{most_fields};
-
-use conformity::Conformity;
-use dictionary::{Field, Fields};
+use dictionary::Field;
 use header::Header;
 use input::read_full;
 use std::io;
-use symbol_reader::SymbolRead;
-use symbol_writer::SymbolWritten;
-use text_reader::{Outcome, TextRead};
+use text_reader::TextRead;
 
-// A control character is printed as its number in brackets, as document 01 writes it.
-fn show_character(rt: &impl Print, c: u8) -> io::Result<()> {
-    if c < 32 {
-        return print!(rt; "({c})");
-    }
-    let one = [c; 1];
-    rt.write_all(&one)
-}
+// The most codewords that a symbol has.
+const MOST_CODEWORDS: usize = 1558;
 
-// The first n bytes of the lent text.
-fn show_text(rt: &impl Print, text: &[u8], n: usize) -> io::Result<()> {
-    let mut i = 0;
-    while i < text.len() {
-        if n <= i {
-            return Ok(());
+// A control character is printed as its number in brackets, as the specification writes it.
+fn show_text(rt: &impl Print, text: &[u8]) -> io::Result<()> {
+    for &c in text {
+        if c < 32 {
+            print!(rt; "({c})")?;
+        } else {
+            rt.write_all(&[c])?;
         }
-        show_character(rt, text[i])?;
-        i += 1;
     }
     Ok(())
-}
-
-fn show_codeword(rt: &impl Print, w: u8) -> io::Result<()> {
-    print!(rt; "{w} ")
 }
 
 fn show_codewords(rt: &impl Print, codewords: &[u8]) -> io::Result<()> {
-    let mut i = 0;
-    while i < codewords.len() {
-        show_codeword(rt, codewords[i])?;
-        i += 1;
+    for w in codewords {
+        print!(rt; "{w} ")?;
     }
     Ok(())
-}
-
-// The first n codewords of a lent symbol.
-fn show_first(rt: &impl Print, symbol: &[u8], n: usize) -> io::Result<()> {
-    let mut i = 0;
-    while i < symbol.len() {
-        if n <= i {
-            return Ok(());
-        }
-        show_codeword(rt, symbol[i])?;
-        i += 1;
-    }
-    Ok(())
-}
-
-fn show_refusal(rt: &impl Print, r: refusal::Refusal) -> io::Result<()> {
-    print!(rt; "refused {} at place {}", r.number, r.place)
-}
-
-fn show_read(rt: &impl Print, answer: SymbolRead, text: &[u8]) -> io::Result<()> {
-    match answer {
-        SymbolRead::Text(n, used) => {
-            print!(rt; "is ")?;
-            show_text(rt, text, n)?;
-            print!(rt; ", codewords before padding: {used}")?;
-        }
-        SymbolRead::Refused(r) => show_refusal(rt, r)?,
-    }
-    println!(rt; "")
 }
 
 fn read(rt: &impl Print, codewords: &[u8]) -> io::Result<()> {
     let mut text = [0u8; refusal::LIMIT];
-    let answer = symbol_reader::read_symbol(codewords, &mut text);
-    show_read(rt, answer, &text)
+    match symbol_reader::read_symbol(codewords, &mut text) {
+        Ok(read) => {
+            print!(rt; "is ")?;
+            if let Some(shown) = text.get(..read.length) {
+                show_text(rt, shown)?;
+            }
+            println!(rt; ", codewords before padding: {}", read.used)
+        }
+        Err(w) => println!(rt; "{w}"),
+    }
 }
 
 fn read_shown(rt: &impl Print, codewords: &[u8]) -> io::Result<()> {
@@ -91,14 +51,10 @@ fn read_shown(rt: &impl Print, codewords: &[u8]) -> io::Result<()> {
 }
 
 // 230 and 254 in turn, the most codewords that a symbol has: each reader hands the rest to the other at once.
-fn latches() -> [u8; 1558]
-    ensures { 1558 ≡ length result }
-{
-    let mut codewords = [230u8; 1558];
-    let mut i = 1;
-    while i < 1558 {
-        codewords[i] = 254;
-        i += 2;
+fn latches() -> [u8; MOST_CODEWORDS] {
+    let mut codewords = [230u8; MOST_CODEWORDS];
+    for pair in codewords.chunks_exact_mut(2) {
+        pair[1] = 254;
     }
     codewords
 }
@@ -106,34 +62,30 @@ fn latches() -> [u8; 1558]
 // A text in a symbol of at most the largest size.
 fn write(rt: &impl Print, text: &[u8], largest: usize) -> io::Result<()> {
     let mut work = [0u16; 8192];
-    let mut symbol = [0u8; 1558];
-    let answer = symbol_writer::write_symbol(text, largest, &mut work, &mut symbol);
-    match answer {
-        SymbolWritten::Written(capacity, used) => {
-            show_first(rt, &symbol, capacity)?;
-            print!(rt; "codewords before padding: {used}")?;
-        }
-        SymbolWritten::Refused(r) => show_refusal(rt, r)?,
-    }
-    println!(rt; "")
-}
-
-fn write_shown(rt: &impl Print, text: &[u8], largest: usize) -> io::Result<()> {
+    let mut symbol = [0u8; MOST_CODEWORDS];
     rt.write_all(text)?;
     print!(rt; ", largest size {largest}: ")?;
-    write(rt, text, largest)
+    match symbol_writer::write_symbol(text, largest, &mut work, &mut symbol) {
+        Ok(written) => {
+            if let Some(shown) = symbol.get(..written.capacity) {
+                show_codewords(rt, shown)?;
+            }
+            println!(rt; "codewords before padding: {}", written.used)
+        }
+        Err(w) => println!(rt; "{w}"),
+    }
 }
 
 fn symbols_written(rt: &impl Print) -> io::Result<()> {
     println!(rt; "Symbols written")?;
-    write_shown(rt, b"", 1558)?;
-    write_shown(rt, b"123456", 1558)?;
-    write_shown(rt, b"ABC", 1558)?;
-    write_shown(rt, b"AB", 1558)?;
-    write_shown(rt, b"ABCD", 1558)?;
-    write_shown(rt, b"AIMAIMAIM", 1558)?;
-    write_shown(rt, b"ABCD", 3)?;
-    write_shown(rt, b"ABCD", 4)
+    write(rt, b"", MOST_CODEWORDS)?;
+    write(rt, b"123456", MOST_CODEWORDS)?;
+    write(rt, b"ABC", MOST_CODEWORDS)?;
+    write(rt, b"AB", MOST_CODEWORDS)?;
+    write(rt, b"ABCD", MOST_CODEWORDS)?;
+    write(rt, b"AIMAIMAIM", MOST_CODEWORDS)?;
+    write(rt, b"ABCD", 3)?;
+    write(rt, b"ABCD", 4)
 }
 
 fn symbols_read(rt: &impl Print) -> io::Result<()> {
@@ -147,103 +99,61 @@ fn symbols_read(rt: &impl Print) -> io::Result<()> {
     read_shown(rt, &[66, 67, 68, 129])
 }
 
-fn field_at(f: Fields, i: usize) -> Field
-    requires { i < most_fields }
-{
-    f.list[i]
-}
-
 // Row, start and length of each field.
-fn show_fields(rt: &impl Print, f: Fields) -> io::Result<()> {
-    let mut i = 0;
-    while i < refusal::MOST_FIELDS {
-        if f.count <= i {
-            return Ok(());
+fn show_fields(rt: &impl Print, fields: &[Field]) -> io::Result<()> {
+    for f in fields {
+        print!(rt; " {}/{}/{}", f.row, f.start, f.length)?;
+        if f.cut {
+            print!(rt; "/cut")?;
         }
-        show_field(rt, field_at(f, i))?;
-        i += 1;
     }
     Ok(())
 }
 
-fn show_field(rt: &impl Print, f: Field) -> io::Result<()> {
-    print!(rt; " {}/{}/{}", f.row, f.start, f.length)?;
-    if f.cut {
-        print!(rt; "/cut")?;
-    }
-    Ok(())
-}
-
-fn show_conformity(rt: &impl Print, h: Header, f: Fields) -> io::Result<()> {
-    let t = h.doctype;
-    let answer = conformity::conforms(t[0], t[1], f);
-    match answer {
-        Conformity::Conforms => print!(rt; "conforms"),
-        Conformity::Refused(r) => show_refusal(rt, r),
+fn show_conformity(rt: &impl Print, h: Header, fields: &[Field]) -> io::Result<()> {
+    let [type0, type1] = h.doctype;
+    match conformity::conforms(type0, type1, fields) {
+        Ok(()) => println!(rt; "conforms"),
+        Err(w) => println!(rt; "{w}"),
     }
 }
 
-fn show_message(rt: &impl Print, r: TextRead) -> io::Result<()> {
-    let h = r.header;
-    let f = r.fields;
+fn show_message(rt: &impl Print, read: TextRead) -> io::Result<()> {
+    let h = read.header;
     print!(rt; "accepted, days {} and {}", h.issue_day, h.signing_day)?;
     print!(rt;
         ", signed {}, signature {}, fields",
-        r.signed_length, r.signature_length
+        read.signed_length,
+        read.signature.len()
     )?;
-    show_fields(rt, f)?;
+    show_fields(rt, read.fields.as_slice())?;
     print!(rt; "; ")?;
-    show_conformity(rt, h, f)
+    show_conformity(rt, h, read.fields.as_slice())
 }
 
 fn show_text_read(rt: &impl Print, text: &[u8]) -> io::Result<()> {
-    let r = text_reader::read_text(text, refusal::MOST_FIELDS);
-    match r.outcome {
-        Outcome::Accepted => show_message(rt, r)?,
-        Outcome::Refused(x) => show_refusal(rt, x)?,
+    match text_reader::read_text(text, refusal::MOST_FIELDS) {
+        Ok(read) => show_message(rt, read),
+        Err(w) => println!(rt; "{w}"),
     }
-    println!(rt; "")
-}
-
-// The end of the line that starts at `from`.
-fn line_end(all: &[u8], from: usize) -> usize
-    requires { from ≤ length all.now }
-    ensures { (from ≤ result) × (result ≤ length all.now) }
-{
-    let mut i = from;
-    while i < all.len() {
-        if all[i] == 10 {
-            return i;
-        }
-        i += 1;
-    }
-    i
 }
 
 // A text a line.
-fn show_texts(rt: &impl Print, all: &[u8]) -> io::Result<()> {
-    let mut from = 0;
-    while from < all.len() {
-        let end = line_end(all, from);
-        show_text_read(rt, &all[from..end])?;
-        from = end + 1;
-    }
-    Ok(())
-}
-
 fn published(rt: &(impl Print + Input)) -> io::Result<()> {
     println!(rt; "Published examples")?;
     let mut all = [0u8; 65536];
     let mut input = rt.reader();
     let n = read_full(&mut input, &mut all)?;
-    show_texts(rt, &all[..n])
+    for line in all[..n].split_inclusive(|&c| c == b'\n') {
+        show_text_read(rt, line.strip_suffix(b"\n").unwrap_or(line))?;
+    }
+    Ok(())
 }
 
 fn main(rt: HostRuntime) -> io::Result<()> {
     symbols_written(&rt)?;
     symbols_read(&rt)?;
     print!(rt; "1558 codewords, 230 254 in turn: ")?;
-    let most = latches();
-    read(&rt, &most)?;
+    read(&rt, &latches())?;
     published(&rt)
 }

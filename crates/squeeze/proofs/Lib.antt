@@ -2,7 +2,6 @@
 pub mod Sizes
 pub mod Lists
 pub mod Live
-pub mod Walks
 pub mod Gathered
 pub mod Rebuilt
 pub mod After

@@ -1,26 +1,14 @@
--- One more entry of a list that is written from a place on, and one more byte of a move.
+-- One more entry of a list that is written to the front of another, and the numbers from 0 on.
 -- Assumes nothing.
-use Prim.Native.Nat.{ℕ, zero, suc, ◌+◌, ◌-◌, ◌≤◌, ◌<◌}
-use mathlib.Core.List.{List, [], ◌∷◌, ◌++◌, append_assoc}
+use Prim.Native.Nat.{ℕ, zero, suc, ◌+◌, ◌≤◌, ◌<◌}
+use mathlib.Core.List.{List, [], ◌∷◌, ◌++◌, append-nil}
 use mathlib.Core.Path.{◌≡◌, refl, sym, ap, ◌∙◌}
 use native.Mathlib.Omega.{arith}
 use native.Mathlib.Numerals.{add-one}
-use lib.ListN.{length, get_or, set, take, drop, length-append, length-drop, replicate, replicate-append-replicate}
-use lib.Seq.{drop-cons, set_at, append_snoc, paste, paste-suc, drop-paste, get_or-drop}
+use lib.ListN.{length, get_or, set, take, drop, length-append, drop_of_length-le}
+use lib.Seq.{drop-cons, set_at, append_snoc, length-take-le}
 use Rattle.refusal.specs.Over.{over}
-use Rattle.day_file.specs.Pieces.{put_at}
-use Rattle.day_file.proofs.Putting.{head_put}
 use Rattle.squeeze.specs.Squeeze.{up_from}
-
-pub put_one : (l : List ℕ) (p : ℕ) (vs : List ℕ) (q a : ℕ) → p + length vs ≡ q → q < length l → set (put_at l p vs) q a ≡ put_at l p (vs ++ (a ∷ []))
-put_one l p vs q a e h =
-    let n : suc q ≡ p + length (vs ++ (a ∷ [])) = omega (arith, length-append vs (a ∷ [])) in
-    ap (λ m. set (take p l ++ vs ++ drop m l) q a) e
-    ∙ ap (λ m. set (take p l ++ vs ++ m) q a) (drop-cons l q 0 h)
-    ∙ set_at (take p l ++ vs) (get_or l q 0) (drop (suc q) l) a q (head_put l p vs (omega arith) ∙ e)
-    ∙ sym (append_snoc (take p l ++ vs) a (drop (suc q) l))
-    ∙ ap (λ m. m ++ drop (suc q) l) (append_assoc (take p l) vs (a ∷ []))
-    ∙ ap (λ m. take p l ++ (vs ++ (a ∷ [])) ++ drop m l) n
 
 pub over_one : (vs l : List ℕ) (q a : ℕ) → q ≡ length vs → q < length l → set (over vs l) q a ≡ over (vs ++ (a ∷ [])) l
 over_one vs l q a e h =
@@ -30,9 +18,6 @@ over_one vs l q a e h =
     ∙ set_at vs (get_or l q 0) (drop (suc q) l) a q (sym e)
     ∙ sym (append_snoc vs a (drop (suc q) l))
     ∙ ap (λ m. vs ++ (a ∷ []) ++ drop m l) n
-
-pub replicate_more : (n : ℕ) (v : ℕ) → replicate n v ++ (v ∷ []) ≡ replicate (n + 1) v
-replicate_more n v = replicate-append-replicate n 1 v
 
 pub length_up : (i n : ℕ) → length (up_from i n) ≡ n
 unfolding up_from
@@ -55,22 +40,11 @@ pub up_none : up_from 0 0 ≡ []
 unfolding up_from
 up_none = refl
 
--- one more byte moved down
-module _ (f : List ℕ) (to from n : ℕ) (down : to ≤ from) (room : from + n ≤ length f) (i : ℕ) (h : i < n) where
-  kept : get_or (paste f to (drop from f) i) (from + i) 0 ≡ get_or (drop from f) i 0
-  kept =
-      let d : i ≤ length (drop from f) = omega (arith, length-drop from f) in
-      let k : from + i ≡ to + i + (from - to) = omega arith in
-      ap (λ m. get_or (paste f to (drop from f) i) m 0) k
-      ∙ sym (get_or-drop (to + i) (paste f to (drop from f) i) (from - to) 0)
-      ∙ ap (λ l. get_or l (from - to) 0) (drop-paste f to (drop from f) i (omega arith) d)
-      ∙ get_or-drop (to + i) f (from - to) 0
-      ∙ ap (λ m. get_or f m 0) (sym k)
-      ∙ sym (get_or-drop from f i 0)
-
-  pub move_more : (g : List ℕ) → g ≡ paste f to (drop from f) i → set g (to + i) (get_or g (from + i) 0) ≡ paste f to (drop from f) (i + 1)
-  move_more g e =
-      ap (λ l. set l (to + i) (get_or l (from + i) 0)) e
-      ∙ ap (λ a. set (paste f to (drop from f) i) (to + i) a) kept
-      ∙ paste-suc f to (drop from f) i 0 (omega arith) (omega (arith, length-drop from f))
-      ∙ ap (paste f to (drop from f)) (sym (add-one i))
+-- a list that fills the part up to n
+pub front_over : (n i : ℕ) (l : List ℕ) → n ≤ length l → length (take n l) ≤ i → i ≤ length (take n l) → over (up_from 0 i) (take n l) ++ drop n l ≡ over (up_from 0 n) l
+front_over n i l h a b =
+    let m : length (take n l) ≡ n = length-take-le n l h in
+    let e : i ≡ n = omega arith in
+    let none : drop (length (up_from 0 n)) (take n l) ≡ [] = drop_of_length-le (take n l) {i = length (up_from 0 n)} (omega (arith, m, length_up 0 n)) in
+    ap (λ j. over (up_from 0 j) (take n l) ++ drop n l) e ∙ ap (λ k. up_from 0 n ++ k ++ drop n l) none
+    ∙ ap (λ k. k ++ drop n l) (append-nil (up_from 0 n)) ∙ ap (λ j. up_from 0 n ++ drop j l) (sym (length_up 0 n))

@@ -1,72 +1,103 @@
--- The live records gathered, zeros behind them, their trailer over the zeros; and what is answered, test by test.
+-- The live records gathered, zeros behind them, their trailer over the zeros.
 -- Assumes nothing.
-use Prim.Native.Nat.{ℕ, ◌+◌, ◌-◌, ◌*◌, ◌≤◌, ◌<◌}
+use Prim.Native.Nat.{ℕ, ◌+◌, ◌-◌, ◌*◌, ◌≤◌}
 use mathlib.Core.List.{List, ◌++◌, append_assoc}
 use mathlib.Core.Path.{◌≡◌, sym, ap, ◌∙◌}
 use native.Mathlib.Omega.{arith}
-use lib.ListN.{length, take, drop, length-append, replicate, length-replicate, replicate-append-replicate}
+use lib.ListN.{length, take, drop, length-append, length-drop, replicate, length-replicate, replicate-append-replicate}
+use borrow.Rule.Slice.PartMut.{put_mid}
 use lib.Seq.{drop_at, drop-drop, length-take-le}
-use borrow.Author.Tests.{le-leb, lt-leb}
-use Rattle.refusal.specs.Answers.{good, refused}
-use Rattle.refusal.specs.Numbers.{lent_too_short}
 use Rattle.refusal.specs.Over.{over}
-use Rattle.day_file.specs.File.{Scan, body, bytes_of}
+use Rattle.day_file.specs.File.{Scan, most_bytes, body, bytes_of}
 use Rattle.day_file.specs.Opening.{scans, opened}
 use Rattle.day_file.specs.Pieces.{put_at}
+use Rattle.day_file.specs.declared.Opened.{Opened}
+use Rattle.day_file.specs.Opens.{Opens}
 use Rattle.day_file.proofs.Bytes.{Bytes}
+use Rattle.day_file.proofs.Holding.{holds}
+use Rattle.day_file.proofs.Numbered.{opened_is, Known, known}
+use Rattle.squeeze.specs.inner.Code.{scans_in}
 use Rattle.day_file.proofs.Good.{size_is}
 use Rattle.day_file.proofs.Standing.{scans_of}
-use Rattle.day_file.proofs.Putting.{take_put, length_put}
-use Rattle.squeeze.specs.Squeeze.{live_ones, squeezing, squeezed}
-use Rattle.squeeze.specs.inner.Code.{scans_in, Opens}
+use Rattle.day_file.proofs.Putting.{take_put, length_put, part_put}
+use Rattle.squeeze.specs.Squeeze.{live_ones, squeezed}
 use Rattle.squeeze.proofs.Sizes.{squeezed_least}
-use Rattle.squeeze.proofs.Walks.{held, small_count}
 use Rattle.squeeze.proofs.Gathered.{same_behind}
 
-module _ (s : List ℕ) (len count t : ℕ) (y : Bytes s) (e : Opens s len count t) where
-  abbrev L : List Scan
-  L = live_ones (scans_in s len)
+module _
+    (s : List ℕ) (len : ℕ) (o : Opened) (y : Bytes s) (is_open : Opens (opened s len) o)
+    (n : ℕ) (count : n ≡ length (live_ones (scans_in s len))) (to : ℕ) (at : to ≡ length (body (live_ones (scans_in s len))))
+  where
+    abbrev rs : List Scan
+    rs = scans_in s len
 
-  abbrev N : ℕ
-  N = length (bytes_of L)
+    abbrev L : List Scan
+    L = live_ones rs
 
-  pub new_fits : N ≤ len
-  new_fits = omega (arith, squeezed_least (scans_in s len), (held s len count t y e).long)
+    abbrev N : ℕ
+    N = length (bytes_of L)
 
-  module _ (to : ℕ) (at : to ≡ length (body L)) where
-    pub new_size : to + 4 * length L + 8 ≡ N
-    new_size = omega (arith, size_is L)
+    its : Known s len o rs
+    its = known s len o y is_open
 
-    module _ (g : List ℕ) (front : take to g ≡ body L) (behind : drop t g ≡ drop t s) (long : length g ≡ length s) where
+    pub sizes : (to + 4 * n + 8 ≡ N) × (N ≤ len) × (len ≤ most_bytes) × (most_bytes ≤ length s)
+    sizes = (
+      omega (arith, count, size_is L),
+      omega (arith, squeezed_least rs, size_is rs, its.count, its.trails, its.size),
+      its.fits,
+      (holds s len rs y (opened_is (opened s len) o is_open)).room,
+    )
+
+    -- the records gathered in g
+    module _ (g : List ℕ) (front : take to g ≡ body L) (behind : drop o.trailer g ≡ drop o.trailer s) (long : length g ≡ length s) where
       abbrev Z : List ℕ
       Z = replicate (len - to) 0
 
       size_z : to + length Z ≡ len
-      size_z = omega (arith, length-replicate {A = ℕ} (len - to) 0, new_fits, new_size)
+      size_z = omega (arith, length-replicate {A = ℕ} (len - to) 0, sizes)
 
       in_slice : len ≤ length g
-      in_slice = omega (arith, small_count s len count t y e)
+      in_slice = omega (arith, sizes, long)
 
-      module _ (k : List ℕ) (cleared : k ≡ put_at g to Z) where
-        front_k : take to k ≡ body L
-        front_k = ap (take to) cleared ∙ take_put g to Z (omega (arith, size_z, in_slice)) ∙ front
+      -- zeros behind them up to a place e
+      module _ (e : ℕ) (low : to ≤ e) (high : e ≤ length g) (zs : List ℕ) (filled : zs ≡ replicate (length (take (e - to) (drop to g))) 0) where
+        zeros : zs ≡ replicate (e - to) 0
+        zeros = filled ∙ ap (λ (m : ℕ). replicate {A = ℕ} m 0) (length-take-le (e - to) (drop to g) (omega (arith, length-drop to g)))
 
-        scans_k : (n : ℕ) → n ≡ length L → scans n (take to k) ≡ L
-        scans_k n q = ap (λ m. scans m (take to k)) q ∙ ap (scans (length L)) front_k ∙ scans_of L
+        size_e : to + length (replicate {A = ℕ} (e - to) 0) ≡ e
+        size_e = omega (arith, length-replicate {A = ℕ} (e - to) 0)
 
-        pub records_stand : (n : ℕ) → n ≡ length L → body (scans n (take to k)) ≡ take to k
-        records_stand n q = ap body (scans_k n q) ∙ sym front_k
+        cleared : put_mid to (e - to) g zs ≡ put_at g to (replicate (e - to) 0)
+        cleared = part_put g zs to (e - to) (sym (ap length zeros ∙ length-replicate (e - to) 0)) ∙ ap (put_at g to) zeros
 
-        pub length_k : length k ≡ length s
-        length_k = ap length cleared ∙ length_put g to Z (omega (arith, size_z, in_slice)) ∙ long
+        front_k : take to (put_mid to (e - to) g zs) ≡ body L
+        front_k = ap (take to) cleared ∙ take_put g to (replicate (e - to) 0) (omega arith) ∙ front
+
+        scans_k : scans n (take to (put_mid to (e - to) g zs)) ≡ L
+        scans_k = ap (λ m. scans m (take to (put_mid to (e - to) g zs))) count ∙ ap (scans (length L)) front_k ∙ scans_of L
+
+        pub trailer_fits : (body (scans n (take to (put_mid to (e - to) g zs))) ≡ take to (put_mid to (e - to) g zs)) × (to + 4 * n + 8 ≤ most_bytes) × (most_bytes ≤ length (put_mid to (e - to) g zs))
+        trailer_fits = (
+          ap body scans_k ∙ sym front_k,
+          omega (arith, sizes),
+          omega (arith, ap length cleared ∙ length_put g to (replicate (e - to) 0) (omega (arith, size_e)), long, sizes),
+        )
+
+      -- up to the old end
+      module _ (zs : List ℕ) (filled : zs ≡ replicate (length (take (len - to) (drop to g))) 0) where
+        abbrev k : List ℕ
+        k = put_mid to (len - to) g zs
+
+        low : to ≤ len
+        low = omega (arith, sizes)
 
         behind_k : drop N k ≡ replicate (len - N) 0 ++ drop len s
         behind_k =
             let a : length (take to g) ≡ to = length-take-le to g (omega (arith, size_z, in_slice)) in
-            let n : N ≡ to + (N - to) = omega (arith, new_size) in
-            let z : len - to ≡ N - to + (len - N) = omega (arith, new_size, new_fits) in
-            let w : t ≤ len = omega (arith, small_count s len count t y e) in
-            ap (drop N) (cleared ∙ append_assoc (take to g) Z (drop (to + length Z) g))
+            let n : N ≡ to + (N - to) = omega (arith, sizes) in
+            let z : len - to ≡ N - to + (len - N) = omega (arith, sizes) in
+            let w : o.trailer ≤ len = omega (arith, its.size, its.within) in
+            ap (drop N) (cleared len low in_slice zs filled ∙ append_assoc (take to g) Z (drop (to + length Z) g))
             ∙ ap (λ m. drop m (take to g ++ (Z ++ drop (to + length Z) g))) n
             ∙ sym (drop-drop (N - to) to (take to g ++ (Z ++ drop (to + length Z) g)))
             ∙ ap (drop (N - to)) (drop_at (take to g) (Z ++ drop (to + length Z) g) to a)
@@ -75,32 +106,12 @@ module _ (s : List ℕ) (len count t : ℕ) (y : Bytes s) (e : Opens s len count
             ∙ ap (λ m. drop (N - to) (m ++ drop len g)) (sym (replicate-append-replicate (N - to) (len - N) 0))
             ∙ ap (drop (N - to)) (append_assoc (replicate (N - to) 0) (replicate (len - N) 0) (drop len g))
             ∙ drop_at (replicate (N - to) 0) (replicate (len - N) 0 ++ drop len g) (N - to) (length-replicate (N - to) 0)
-            ∙ ap (λ m. replicate (len - N) 0 ++ m) (same_behind g s t len behind w)
+            ∙ ap (λ m. replicate (len - N) 0 ++ m) (same_behind g s o.trailer len behind w)
 
-        pub whole_is : (n : ℕ) → n ≡ length L → over (bytes_of (scans n (take to k))) k ≡ over (squeezed len (scans_in s len)) s
-        whole_is n q =
-            let m : length (squeezed len (scans_in s len)) ≡ len = length-append (bytes_of L) (replicate (len - N) 0) ∙ ap (λ j. N + j) (length-replicate (len - N) 0) ∙ omega (arith, new_fits) in
-            ap (λ l. over (bytes_of l) k) (scans_k n q)
+        pub whole_is : over (bytes_of (scans n (take to k))) k ≡ over (squeezed len rs) s
+        whole_is =
+            let m : length (squeezed len rs) ≡ len = length-append (bytes_of L) (replicate (len - N) 0) ∙ ap (λ j. N + j) (length-replicate (len - N) 0) ∙ omega (arith, sizes) in
+            ap (λ l. over (bytes_of l) k) (scans_k len low in_slice zs filled)
             ∙ ap (λ l. bytes_of L ++ l) behind_k
             ∙ sym (append_assoc (bytes_of L) (replicate (len - N) 0) (drop len s))
-            ∙ ap (λ j. squeezed len (scans_in s len) ++ drop j s) (sym m)
-
--- what is answered, test by test
-module _ (s : List ℕ) (len olds news : ℕ) where
-  pub squeeze_not : (n p : ℕ) → opened s len ≡ refused n p → squeezing s len olds news ≡ refused n p
-  unfolding squeezing
-  squeeze_not n p e = rw e
-
-  module _ (rs : List Scan) (e : opened s len ≡ good rs) where
-    pub few_olds : olds < length (live_ones rs) → squeezing s len olds news ≡ refused lent_too_short 0
-    unfolding squeezing
-    few_olds h = rw (e, lt-leb (length (live_ones rs)) olds h)
-
-    module _ (h₁ : length (live_ones rs) ≤ olds) where
-      pub few_news : news < length (live_ones rs) → squeezing s len olds news ≡ refused lent_too_short 0
-      unfolding squeezing
-      few_news h = rw (e, le-leb (length (live_ones rs)) olds h₁, lt-leb (length (live_ones rs)) news h)
-
-      pub enough : length (live_ones rs) ≤ news → squeezing s len olds news ≡ good rs
-      unfolding squeezing
-      enough h = rw (e, le-leb (length (live_ones rs)) olds h₁, le-leb (length (live_ones rs)) news h)
+            ∙ ap (λ j. squeezed len rs ++ drop j s) (sym m)

@@ -1,5 +1,4 @@
 -- What the proofs of several functions use.
 mod After
 mod Clauses
-mod Nexts
 pub mod Whole

@@ -1,18 +1,24 @@
 -- From the symbol that the costs give to the promise: the greedy writer's symbol is the best, by the theorem of crate `optimum`; and the
 -- promise leaves one answer, since the best symbol is one and none fits where there is none.
 -- Assumes nothing.
+use Rattle.std.specs.Prelude.{Ok, Err}
+use Rattle.std.specs.declared.result.Result.{Result}
 use mathlib.Core.Bool.{Bool, true, false, not, ◌||◌}
 use mathlib.Core.List.{List, [], ◌∷◌, ◌++◌}
 use mathlib.Core.Logic.{inl, inr}
-use mathlib.Core.Path.{◌≡◌, refl, ap, sym, ◌∙◌}
+use mathlib.Core.Path.{◌≡◌, refl, ap, ap₂, sym, ◌∙◌}
 use Prim.Native.Nat.{ℕ, suc, ◌≤◌}
 use native.Mathlib.Omega.{arith}
 use lib.Dec.{ltb}
 use lib.ListN.{length, drop}
 use borrow.Author.Tests.{ltb-true, ltb-false}
 use Rattle.refusal.specs.Limits.{limit}
+use Rattle.refusal.specs.declared.Refusal.{Refusal}
+use Rattle.refusal.specs.Answers.{refused}
+use Rattle.refusal.specs.Said.{says}
+use Rattle.refusal.proofs.Said.{says_one}
 use Rattle.refusal.specs.Pick.{pick}
-use Rattle.refusal.specs.Numbers.{refusal, text_too_long, lent_too_short, character_above_127, largest_no_capacity}
+use Rattle.refusal.specs.Numbers.{text_too_long, lent_too_short, character_above_127, largest_no_capacity, no_size_fits}
 use Rattle.codeword.specs.Sizes.{capacities, is_capacity}
 use Rattle.codeword.specs.Best.{used, Best, NoneFits}
 use Rattle.codeword.specs.Reading.{in_ascii}
@@ -22,7 +28,6 @@ use Rattle.optimum.proofs.Top.{right, Sized, sized}
 use Rattle.optimum.proofs.Top as Top
 use Rattle.optimum.proofs.Unique.{one_best}
 use Rattle.symbol_writer.specs.declared.SymbolWritten.{SymbolWritten}
-use Rattle.symbol_writer.specs.declared.SymbolWritten.TheVariants.{Written, Refused}
 use Rattle.symbol_writer.specs.Rows.{work_room}
 use Rattle.symbol_writer.specs.Moves.{Chars}
 use Rattle.symbol_writer.specs.Symbol.{Answer, first_above, zeros, with_pads, in_size, write_symbol, answered, symbol_after, work_after}
@@ -34,18 +39,27 @@ listed [] h = tt
 listed (c ∷ t) h = (h 0, listed t (λ k. h (suc k)))
 
 -- THE SYMBOL OF THE CHOSEN SIZE
-module _ (t : List ℕ) (largest : ℕ) (old new : List ℕ) (r : SymbolWritten) where
+module _ (t : List ℕ) (largest : ℕ) (old new : List ℕ) where
+  no_size : (r : Result SymbolWritten Refusal) → NoneFits t largest → says r ≡ refused no_size_fits 0 → new ≡ old → Chosen t largest old new r
+  no_size (Ok w) N e f = absurd (cc)
+  no_size (Err x) N e f = inl ((e, f), N)
+
+  too_short : (r : Result SymbolWritten Refusal) → TooShort t largest old → says r ≡ refused lent_too_short 0 → new ≡ old → Chosen t largest old new r
+  too_short (Ok w) T e f = absurd (cc)
+  too_short (Err x) T e f = inr ((e, f), T)
+
+module _ (t : List ℕ) (largest : ℕ) (old new : List ℕ) (r : Result SymbolWritten Refusal) where
   in_size_law : (c n : ℕ) (b : Bool) → Best t largest (symbol_of (at c n b) t) → Sized t (at c n b)
-      → r ≡ answered (in_size (length old) t (at c n b)) → new ≡ symbol_after (in_size (length old) t (at c n b)) old → Chosen t largest old new r
+      → says r ≡ answered (in_size (length old) t (at c n b)) → new ≡ symbol_after (in_size (length old) t (at c n b)) old → Chosen t largest old new r
   in_size_law c n b B S = go (ltb (length old) c) refl
     where
       go : (x : Bool) → ltb (length old) c ≡ x
-          → r ≡ answered (pick x (Answer.cleared lent_too_short 0) (Answer.written c (length (write b n in_ascii t)) (with_pads c (write b n in_ascii t))))
+          → says r ≡ answered (pick x (Answer.cleared lent_too_short 0) (Answer.written c (length (write b n in_ascii t)) (with_pads c (write b n in_ascii t))))
           → new ≡ symbol_after (pick x (Answer.cleared lent_too_short 0) (Answer.written c (length (write b n in_ascii t)) (with_pads c (write b n in_ascii t)))) old
           → Chosen t largest old new r
-      go true q e f = rw e (f, inr (refl, record { ws = symbol_of (at c n b) t; best = B; short = omega (arith, S.1, ltb-true (length old) c q) }))
+      go true q e f = too_short t largest old new r (record { ws = symbol_of (at c n b) t; best = B; short = omega (arith, S.1, ltb-true (length old) c q) }) e f
       go false q e f =
-          rw e
+          rw (says_one r (Ok (record { capacity = c; used = length (write b n in_ascii t) })) e)
           (record {
             ws = symbol_of (at c n b) t;
             best = B;
@@ -56,12 +70,12 @@ module _ (t : List ℕ) (largest : ℕ) (old new : List ℕ) (r : SymbolWritten)
           })
 
   by_choice : (x : Choice) → Top.Answer t largest x → Sized t x
-      → r ≡ answered (in_size (length old) t x) → new ≡ symbol_after (in_size (length old) t x) old → Chosen t largest old new r
+      → says r ≡ answered (in_size (length old) t x) → new ≡ symbol_after (in_size (length old) t x) old → Chosen t largest old new r
   by_choice (at c n b) B S e f = in_size_law c n b B S e f
-  by_choice nothing N S e f = rw e (f, inl (refl, N))
+  by_choice nothing N S e f = no_size t largest old new r N e f
 
   -- THE PROMISE
-  pub promised : (work : ℕ) → r ≡ answered (write_symbol t largest work (length old)) → new ≡ symbol_after (write_symbol t largest work (length old)) old
+  pub promised : (work : ℕ) → says r ≡ answered (write_symbol t largest work (length old)) → new ≡ symbol_after (write_symbol t largest work (length old)) old
       → Promised t largest work old new r
   unfolding Promised write_symbol
   promised work = go (ltb limit (length t)) (ltb (first_above t) (length t)) (is_capacity largest) (ltb work work_room) refl refl
@@ -75,9 +89,9 @@ module _ (t : List ℕ) (largest : ℕ) (old new : List ℕ) (r : SymbolWritten)
           (Answer.refused largest_no_capacity 0)))
 
       is : (number place : ℕ) → Type 0
-      is k p = (r ≡ Refused (refusal k p)) × (new ≡ old)
+      is k p = (says r ≡ refused k p) × (new ≡ old)
 
-      go : (a b c d : Bool) → ltb limit (length t) ≡ a → ltb (first_above t) (length t) ≡ b → r ≡ answered (answer a b c d)
+      go : (a b c d : Bool) → ltb limit (length t) ≡ a → ltb (first_above t) (length t) ≡ b → says r ≡ answered (answer a b c d)
           → new ≡ symbol_after (answer a b c d) old
           → pick a (is text_too_long 0) (pick b (is character_above_127 (first_above t))
           (pick c (pick d (is lent_too_short 0) (Chosen t largest old new r)) (is largest_no_capacity 0)))
@@ -112,12 +126,13 @@ left_as_promised t largest room old =
 
 -- ONE ANSWER ONLY
 module _ (t : List ℕ) (largest : ℕ) (old : List ℕ) where
-  both_stand : (new new' : List ℕ) (c n c' n' : ℕ) → Stands t largest old new c n → Stands t largest old new' c' n' → (Written c n ≡ Written c' n') × (new ≡ new')
-  both_stand new new' c n c' n' S S' = go (one_best t largest S.ws S'.ws S.best S'.best)
+  both_stand : (new new' : List ℕ) (w w' : SymbolWritten) → Stands t largest old new w.capacity w.used → Stands t largest old new' w'.capacity w'.used
+      → (◌≡◌ {A = Result SymbolWritten Refusal} (Ok w) (Ok w')) × (new ≡ new')
+  both_stand new new' w w' S S' = go (one_best t largest S.ws S'.ws S.best S'.best)
     where
-      go : S.ws ≡ S'.ws → (Written c n ≡ Written c' n') × (new ≡ new')
+      go : S.ws ≡ S'.ws → (◌≡◌ {A = Result SymbolWritten Refusal} (Ok w) (Ok w')) × (new ≡ new')
       go e = (
-        ap (λ m. Written m n) (S.size ∙ ap length e ∙ sym S'.size) ∙ ap (λ m. Written c' m) (S.count ∙ ap used e ∙ sym S'.count),
+        ap₂ (λ (c n : ℕ). Ok (record { capacity = c; used = n })) (S.size ∙ ap length e ∙ sym S'.size) (S.count ∙ ap used e ∙ sym S'.count),
         S.output ∙ ap (λ ws. ws ++ drop (length ws) old) e ∙ sym S'.output,
       )
 
@@ -127,35 +142,35 @@ module _ (t : List ℕ) (largest : ℕ) (old : List ℕ) where
   stands_no_room : {P : Type 0} (new : List ℕ) (c n : ℕ) → Stands t largest old new c n → TooShort t largest old → P
   stands_no_room new c n S T = absurd (omega (arith, S.room, T.short, ap length (one_best t largest S.ws T.ws S.best T.best)))
 
-  only_chosen : (new new' : List ℕ) (r r' : SymbolWritten) → Chosen t largest old new r → Chosen t largest old new' r' → (r ≡ r') × (new ≡ new')
-  only_chosen new new' (Written c n) (Written c' n') S S' = both_stand new new' c n c' n' S S'
-  only_chosen new new' (Written c n) (Refused x) S (f, inl (e, N)) = no_size_no_best S.ws S.best N
-  only_chosen new new' (Written c n) (Refused x) S (f, inr (e, T)) = stands_no_room new c n S T
-  only_chosen new new' (Refused x) (Written c n) (f, inl (e, N)) S = no_size_no_best S.ws S.best N
-  only_chosen new new' (Refused x) (Written c n) (f, inr (e, T)) S = stands_no_room new' c n S T
-  only_chosen new new' (Refused x) (Refused x') (f, inl (e, N)) (f', inl (e', N')) = (ap Refused (e ∙ sym e'), f ∙ sym f')
-  only_chosen new new' (Refused x) (Refused x') (f, inl (e, N)) (f', inr (e', T)) = no_size_no_best T.ws T.best N
-  only_chosen new new' (Refused x) (Refused x') (f, inr (e, T)) (f', inl (e', N)) = no_size_no_best T.ws T.best N
-  only_chosen new new' (Refused x) (Refused x') (f, inr (e, T)) (f', inr (e', T')) = (ap Refused (e ∙ sym e'), f ∙ sym f')
+  only_chosen : (new new' : List ℕ) (r r' : Result SymbolWritten Refusal) → Chosen t largest old new r → Chosen t largest old new' r' → (r ≡ r') × (new ≡ new')
+  only_chosen new new' (Ok w) (Ok w') S S' = both_stand new new' w w' S S'
+  only_chosen new new' (Ok w) (Err x) S (inl (e, N)) = no_size_no_best S.ws S.best N
+  only_chosen new new' (Ok w) (Err x) S (inr (e, T)) = stands_no_room new w.capacity w.used S T
+  only_chosen new new' (Err x) (Ok w) (inl (e, N)) S = no_size_no_best S.ws S.best N
+  only_chosen new new' (Err x) (Ok w) (inr (e, T)) S = stands_no_room new' w.capacity w.used S T
+  only_chosen new new' (Err x) (Err x') (inl (e, N)) (inl (e', N')) = (says_one (Err x) (Err x') (e.0 ∙ sym e'.0), e.1 ∙ sym e'.1)
+  only_chosen new new' (Err x) (Err x') (inl (e, N)) (inr (e', T)) = no_size_no_best T.ws T.best N
+  only_chosen new new' (Err x) (Err x') (inr (e, T)) (inl (e', N)) = no_size_no_best T.ws T.best N
+  only_chosen new new' (Err x) (Err x') (inr (e, T)) (inr (e', T')) = (says_one (Err x) (Err x') (e.0 ∙ sym e'.0), e.1 ∙ sym e'.1)
 
-  pub only_one : (work : ℕ) (new new' : List ℕ) (r r' : SymbolWritten) → Promised t largest work old new r → Promised t largest work old new' r'
+  pub only_one : (work : ℕ) (new new' : List ℕ) (r r' : Result SymbolWritten Refusal) → Promised t largest work old new r → Promised t largest work old new' r'
       → (r ≡ r') × (new ≡ new')
   unfolding Promised
   only_one work new new' r r' = go (ltb limit (length t)) (ltb (first_above t) (length t)) (is_capacity largest) (ltb work work_room)
     where
-      is : (number place : ℕ) (new : List ℕ) (r : SymbolWritten) → Type 0
-      is k p new r = (r ≡ Refused (refusal k p)) × (new ≡ old)
+      is : (number place : ℕ) (new : List ℕ) (r : Result SymbolWritten Refusal) → Type 0
+      is k p new r = (says r ≡ refused k p) × (new ≡ old)
 
       same : (k p : ℕ) → is k p new r → is k p new' r' → (r ≡ r') × (new ≡ new')
-      same k p x y = (x.0 ∙ sym y.0, x.1 ∙ sym y.1)
+      same k p x y = (says_one r r' (x.0 ∙ sym y.0), x.1 ∙ sym y.1)
 
-      says : (a b c d : Bool) (new : List ℕ) (r : SymbolWritten) → Type 0
-      says a b c d new r =
+      told : (a b c d : Bool) (new : List ℕ) (r : Result SymbolWritten Refusal) → Type 0
+      told a b c d new r =
           pick a (is text_too_long 0 new r)
           (pick b (is character_above_127 (first_above t) new r)
           (pick c (pick d (is lent_too_short 0 new r) (Chosen t largest old new r)) (is largest_no_capacity 0 new r)))
 
-      go : (a b c d : Bool) → says a b c d new r → says a b c d new' r' → (r ≡ r') × (new ≡ new')
+      go : (a b c d : Bool) → told a b c d new r → told a b c d new' r' → (r ≡ r') × (new ≡ new')
       go true b c d x y = same text_too_long 0 x y
       go false true c d x y = same character_above_127 (first_above t) x y
       go false false false d x y = same largest_no_capacity 0 x y

@@ -1,12 +1,15 @@
 -- WHAT WRITING A SYMBOL PROMISES, in document 01's words and order: of any codewords that read as the text the best, or a refusal.
-use Rattle.std.specs.Prelude.{ℕ, ◌≤◌, ◌<◌, Bool, not, ◌||◌, List, ◌++◌, ◌⊎◌, ◌≡◌, ltb, length, drop}
+use Rattle.std.specs.declared.result.Result.{Result}
+use Rattle.std.specs.Prelude.{ℕ, ◌≤◌, ◌<◌, Bool, not, ◌||◌, List, ◌++◌, ◌⊎◌, ◌≡◌, ltb, length, drop, Ok, Err}
 use Rattle.refusal.specs.Limits.{limit}
+use Rattle.refusal.specs.Answers.{refused}
+use Rattle.refusal.specs.declared.Refusal.{Refusal}
+use Rattle.refusal.specs.Said.{says}
 use Rattle.refusal.specs.Pick.{pick}
-use Rattle.refusal.specs.Numbers.{refusal, text_too_long, lent_too_short, character_above_127, largest_no_capacity, no_size_fits}
+use Rattle.refusal.specs.Numbers.{text_too_long, lent_too_short, character_above_127, largest_no_capacity, no_size_fits}
 use Rattle.codeword.specs.Sizes.{is_capacity}
 use Rattle.codeword.specs.Best.{used, Best, NoneFits}
 use Rattle.symbol_writer.specs.declared.SymbolWritten.{SymbolWritten}
-use Rattle.symbol_writer.specs.declared.SymbolWritten.TheVariants.{Written, Refused}
 use Rattle.symbol_writer.specs.Rows.{work_room}
 use Rattle.symbol_writer.specs.Symbol.{first_above, zeros}
 
@@ -25,18 +28,18 @@ pub record TooShort (t : List ℕ) (largest : ℕ) (old : List ℕ) : Type 0 whe
   pub best : Best t largest ws
   pub short : length old < length ws
 
--- where nothing was refused before the size was chosen
-abbrev pub Chosen : (t : List ℕ) (largest : ℕ) (old new : List ℕ) → SymbolWritten → Type 0
-Chosen t largest old new (Written capacity n) = Stands t largest old new capacity n
-Chosen t largest old new (Refused x) =
-    (new ≡ old)
-    × (((x ≡ refusal no_size_fits 0) × NoneFits t largest) ⊎ ((x ≡ refusal lent_too_short 0) × TooShort t largest old))
+-- the answer is a refusal, and leaves the output
+abbrev Refuses : (number place : ℕ) (old new : List ℕ) → Result SymbolWritten Refusal → Type 0
+Refuses k p old new r = (says r ≡ refused k p) × (new ≡ old)
 
-abbrev Refuses : (number place : ℕ) (old new : List ℕ) → SymbolWritten → Type 0
-Refuses k p old new r = (r ≡ Refused (refusal k p)) × (new ≡ old)
+-- where nothing was refused before the size was chosen
+abbrev pub Chosen : (t : List ℕ) (largest : ℕ) (old new : List ℕ) → Result SymbolWritten Refusal → Type 0
+Chosen t largest old new (Ok w) = Stands t largest old new w.capacity w.used
+Chosen t largest old new (Err x) =
+    (Refuses no_size_fits 0 old new (Err x) × NoneFits t largest) ⊎ (Refuses lent_too_short 0 old new (Err x) × TooShort t largest old)
 
 -- Order: 5, 7 at the first, 8, 6 for the work slice, 9, 6 for an output shorter than the symbol chosen. A refusal leaves the output.
-unfoldable pub Promised : (t : List ℕ) (largest work : ℕ) (old new : List ℕ) → SymbolWritten → Type 0
+unfoldable pub Promised : (t : List ℕ) (largest work : ℕ) (old new : List ℕ) → Result SymbolWritten Refusal → Type 0
 Promised t largest work old new r =
     pick (ltb limit (length t)) (Refuses text_too_long 0 old new r)
     (pick (ltb (first_above t) (length t)) (Refuses character_above_127 (first_above t) old new r)

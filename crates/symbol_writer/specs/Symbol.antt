@@ -1,13 +1,16 @@
 -- What writing a symbol answers and leaves in the lent slices: document 01, "From text to codewords" and "Numbers that come back".
+use Rattle.std.specs.declared.result.Result.{Result}
 use Rattle.std.specs.Prelude.{ℕ, suc, ◌-◌, List, [], ◌∷◌, ◌++◌, ◌≡◌, ltb, length, drop, replicate}
 use Rattle.refusal.specs.Pick.{pick}
-use Rattle.refusal.specs.Numbers.{refusal, text_too_long, lent_too_short, character_above_127, largest_no_capacity, no_size_fits}
+use Rattle.refusal.specs.Numbers.{text_too_long, lent_too_short, character_above_127, largest_no_capacity, no_size_fits}
 use Rattle.refusal.specs.Limits.{limit}
+use Rattle.refusal.specs.Answers as answers
+use Rattle.refusal.specs.declared.Refusal.{Refusal}
+use Rattle.refusal.specs.Said.{says}
 use Rattle.codeword.specs.Sizes.{capacities, is_capacity}
 use Rattle.codeword.specs.Reading.{in_ascii}
 use Rattle.optimum.specs.Write.{Choice, at, nothing, write, choose, padding}
 use Rattle.symbol_writer.specs.declared.SymbolWritten.{SymbolWritten}
-use Rattle.symbol_writer.specs.declared.SymbolWritten.TheVariants.{Written, Refused}
 use Rattle.symbol_writer.specs.Rows.{work_room}
 
 -- a symbol with its capacity and the codewords before its pads; a refusal before the work slice is used, and one after
@@ -40,10 +43,10 @@ write_symbol t largest work room =
     (pick (ltb work work_room) (refused lent_too_short 0) (in_size room t (choose capacities largest t)))
     (refused largest_no_capacity 0)))
 
-abbrev pub answered : Answer → SymbolWritten
-answered (written c n s) = Written c n
-answered (refused k p) = Refused (refusal k p)
-answered (cleared k p) = Refused (refusal k p)
+abbrev pub answered : Answer → answers.Answer SymbolWritten
+answered (written c n s) = answers.good (record { capacity = c; used = n })
+answered (refused k p) = answers.refused k p
+answered (cleared k p) = answers.refused k p
 
 -- Beyond the symbol, the output is untouched; a refusal leaves it all.
 abbrev pub symbol_after : Answer → List ℕ → List ℕ
@@ -69,8 +72,8 @@ pub record PutSymbol (ws : List ℕ) (capacity : ℕ) (old new work work' : List
   pub long : length work' ≡ length work
   pub rest : drop work_room work' ≡ drop work_room work
 
-pub record Within (x : Answer) (old new work work' : List ℕ) (r : SymbolWritten) : Type 0 where
-  pub answer : r ≡ answered x
+pub record Within (x : Answer) (old new work work' : List ℕ) (r : Result SymbolWritten Refusal) : Type 0 where
+  pub answer : says r ≡ answered x
   pub output : new ≡ symbol_after x old
   pub long : length work' ≡ length work
   pub rest : drop work_room work' ≡ drop work_room work

@@ -1,228 +1,197 @@
 // The costs: the least number of codewords, even and odd, from each place of the text to its end, filled from the end of the text.
-// A row of eight costs for each place stands in the lent work slice; the row of the place behind is kept in locals.
+// A row of eight costs for each place stands in the lent work slice; the costs at the place behind are kept in locals.
 
-ghost use Rattle.std.specs.Prelude.{◌≡◌, false, suc, ◌+◌, ◌*◌, ◌%◌, ◌≤◌, ◌<◌, min, leb, length, get_or};
-ghost use Rattle.refusal.specs.Pick.{pick};
+ghost use Rattle.std.specs.Prelude.{◌≡◌, ◌+◌, ◌≤◌, leb, length};
 ghost use Rattle.refusal.specs.Limits.{limit};
-ghost use Rattle.optimum.specs.Cost.{inf, digit, base, before, cost};
-ghost use Rattle.symbol_writer.specs.Rows.{costs_of, k_of, Low, put_at, work_room, Filled};
+ghost use Rattle.optimum.specs.Cost.{base, before, cost};
+ghost use Rattle.optimum.specs.Write.{odd};
+ghost use Rattle.symbol_writer.specs.Rows.{work_room, place_in_row, column_behind, least_at, lesser, one_more, two_more, costs_of, k_of, Below, Low, put_at, Filled};
+
+use codeword::Set;
 
 // More than any capacity: no codewords will do.
 const NEVER: u16 = 8192;
 
+// How many numbers a row has.
+pub const ROW: usize = 8;
+
 // The least even and the least odd number of codewords.
-#[derive(Clone, Copy)]
+#[derive(Clone, Copy, Debug, PartialEq, Eq)]
 pub struct Least {
     pub even: u16,
     pub odd: u16,
 }
 
+impl Least {
+    const NEVER: Least = Least {
+        even: NEVER,
+        odd: NEVER,
+    };
+
+    // The lesser of each parity.
+    fn min(self, other: Least) -> Least
+        ensures { result ≡ lesser self other }
+    {
+        Least {
+            even: self.even.min(other.even),
+            odd: self.odd.min(other.odd),
+        }
+    }
+
+    // One codeword more: even counts become odd, and odd ones even.
+    fn one_more(self) -> Least
+        requires { Below 65000 self }
+        ensures { result ≡ one_more self }
+    {
+        Least {
+            even: self.odd + 1,
+            odd: self.even + 1,
+        }
+    }
+
+    // Two codewords more.
+    fn two_more(self) -> Least
+        requires { Below 65000 self }
+        ensures { result ≡ two_more self }
+    {
+        Least {
+            even: self.even + 2,
+            odd: self.odd + 2,
+        }
+    }
+
+    // Whether exactly n codewords will do: the cost of n's parity decides.
+    pub fn allows(self, n: usize) -> bool
+        ensures { result ≡ leb (least_at self (odd n)) n }
+    {
+        let cost = if n % 2 == 0 { self.even } else { self.odd };
+        usize::from(cost) <= n
+    }
+}
+
 // By the state of the writer: in ASCII mode, behind the first digit of two, in C40 mode with none, one or two values in the pair,
-// and at the very end of the text, where the count is even.
-#[derive(Clone, Copy)]
+// and at the very end of the text.
+#[derive(Clone, Copy, Debug, PartialEq, Eq)]
 pub struct Costs {
     pub ascii: Least,
     pub digit: Least,
     pub none: Least,
     pub one: Least,
     pub two: Least,
-    pub end: u16,
+    pub end: Least,
 }
 
-#[tactic(auto, unfolding(optimum::specs::Cost::digit))]
-pub fn is_digit(c: u8) -> bool
-    ensures { result ≡ digit c }
-{
-    if c < 48 { false } else { c < 58 }
-}
-
-pub fn smaller(a: u16, b: u16) -> u16
-    ensures { result ≡ min a b }
-{
-    if a <= b { a } else { b }
-}
-
-fn lesser(a: Least, b: Least) -> Least
-    ensures { (result.even ≡ min a.even b.even) × (result.odd ≡ min a.odd b.odd) }
-{
-    let even = smaller(a.even, b.even);
-    let odd = smaller(a.odd, b.odd);
-    Least { even, odd }
-}
-
-fn either(t: bool, a: Least, b: Least) -> Least
-    ensures { (result.even ≡ pick t a.even b.even) × (result.odd ≡ pick t a.odd b.odd) }
-{
-    if t { a } else { b }
-}
-
-// One codeword more.
-fn one_more(a: Least) -> Least
-    requires { (a.even < 65000) × (a.odd < 65000) }
-    ensures { (result.even ≡ suc a.odd) × (result.odd ≡ suc a.even) }
-{
-    Least {
-        even: a.odd + 1,
-        odd: a.even + 1,
-    }
-}
-
-// Two codewords more.
-fn two_more(a: Least) -> Least
-    requires { (a.even < 65000) × (a.odd < 65000) }
-    ensures { (result.even ≡ 2 + a.even) × (result.odd ≡ 2 + a.odd) }
-{
-    Least {
-        even: 2 + a.even,
-        odd: 2 + a.odd,
-    }
-}
-
-// A character, or the first of two digits.
-fn by_chars(d: bool, k: Costs) -> Least
-    requires { Low k }
-    ensures { (result.even ≡ min (suc k.ascii.odd) (pick d (suc k.digit.odd) inf)) × (result.odd ≡ min (suc k.ascii.even) (pick d (suc k.digit.even) inf)) }
-{
-    let never = Least {
-        even: NEVER,
-        odd: NEVER,
-    };
-    let one = one_more(k.ascii);
-    let two = one_more(k.digit);
-    let digits = either(d, two, never);
-    lesser(one, digits)
-}
-
-// The lone last codeword: one for the last character, in front of the very end.
-fn by_lone(k: Costs) -> Least
-    requires { Low k }
-    ensures { (result.even ≡ suc inf) × (result.odd ≡ suc k.end) }
-{
-    Least {
-        even: NEVER + 1,
-        odd: k.end + 1,
-    }
-}
-
-// A value or two of a new pair, or the lone last codeword.
-fn by_values(b: bool, k: Costs) -> Least
-    requires { Low k }
-    ensures { (result.even ≡ min (suc inf) (pick b k.one.even k.two.even)) × (result.odd ≡ min (suc k.end) (pick b k.one.odd k.two.odd)) }
-{
-    let lone = by_lone(k);
-    let values = either(b, k.one, k.two);
-    lesser(lone, values)
-}
-
-// On in the same mode, or a codeword to change the mode.
-fn or_change(on: Least, other: Least) -> Least
-    requires { (other.even < 65000) × (other.odd < 65000) }
-    ensures { (result.even ≡ min on.even (suc other.odd)) × (result.odd ≡ min on.odd (suc other.even)) }
-{
-    let changed = one_more(other);
-    lesser(on, changed)
-}
-
-// The second value of a pair; with a second and third value the pair is full.
-fn by_second(b: bool, k: Costs) -> Least
-    requires { Low k }
-    ensures { (result.even ≡ pick b k.two.even (2 + k.none.even)) × (result.odd ≡ pick b k.two.odd (2 + k.none.odd)) }
-{
-    let full = two_more(k.none);
-    either(b, k.two, full)
-}
-
-// The third value of a pair: filler and back to ASCII mode or to the lone last codeword, or a value of the character.
-fn by_third(b: bool, ascii: Least, k: Costs) -> Least
-    requires { (Low k) × (ascii.even < 62000) × (ascii.odd < 62000) }
-    ensures { (result.even ≡ 2 + min (min (suc ascii.odd) (suc inf)) (pick b k.none.even k.one.even)) × (result.odd ≡ 2 + min (min (suc ascii.even) (suc k.end)) (pick b k.none.odd k.one.odd)) }
-{
-    let lone = by_lone(k);
-    let filler = or_change(lone, ascii);
-    let values = either(b, k.none, k.one);
-    let third = lesser(filler, values);
-    two_more(third)
-}
-
-// The costs in front of a character, from those behind it.
-fn costs_before(c: u8, k: Costs) -> Costs
-    requires { Low k }
-    ensures { result ≡ costs_of (before c (k_of k)) }
-{
-    let never = Least {
-        even: NEVER,
-        odd: NEVER,
-    };
-    let d = is_digit(c);
-    let b = codeword::is_basic(c);
-    let chars = by_chars(d, k);
-    let values = by_values(b, k);
-    let ascii = or_change(chars, values);
-    let none = or_change(values, chars);
-    let one = by_second(b, k);
-    let two = by_third(b, ascii, k);
-    let digit = either(d, k.ascii, never);
-    Costs {
-        ascii,
-        digit,
-        none,
-        one,
-        two,
-        end: NEVER,
-    }
-}
-
-// The costs at the end of the text, where a pad follows or the symbol is exactly full.
-#[tactic(auto, unfolding(optimum::specs::Cost::base))]
-fn costs_at_end(padded: bool) -> Costs
-    ensures { result ≡ costs_of (base padded) }
-{
-    let never = Least {
-        even: NEVER,
-        odd: NEVER,
-    };
-    if padded {
-        return Costs {
+impl Costs {
+    // The costs at the end of the text, where a pad follows or the symbol is exactly full.
+    #[tactic(auto, unfolding(optimum::specs::Cost::base))]
+    fn at_end(padded: bool) -> Costs
+        ensures { result ≡ costs_of (base padded) }
+    {
+        let (full_even, full_odd) = if padded { (NEVER, NEVER) } else { (0, 1) };
+        Costs {
             ascii: Least {
                 even: 0,
-                odd: NEVER,
+                odd: full_odd,
             },
-            digit: never,
+            digit: Least::NEVER,
             none: Least {
-                even: NEVER,
+                even: full_even,
                 odd: 1,
             },
-            one: never,
+            one: Least::NEVER,
             two: Least {
-                even: NEVER + 2,
+                even: full_even + 2,
                 odd: 3,
             },
-            end: NEVER,
-        };
+            end: Least {
+                even: full_even,
+                odd: NEVER,
+            },
+        }
     }
-    Costs {
-        ascii: Least { even: 0, odd: 1 },
-        digit: never,
-        none: Least { even: 0, odd: 1 },
-        one: never,
-        two: Least { even: 2, odd: 3 },
-        end: 0,
+
+    // The costs in front of a character, from those behind it.
+    fn before(self, c: u8) -> Costs
+        requires { Low self }
+        ensures { result ≡ costs_of (before c (k_of self)) }
+    {
+        let is_digit = c.is_ascii_digit();
+        let is_basic = codeword::is_basic(c);
+        // a character, or the first of two digits
+        let digit = if is_digit { self.ascii } else { Least::NEVER };
+        let digits = if is_digit {
+            self.digit.one_more()
+        } else {
+            Least::NEVER
+        };
+        let chars = self.ascii.one_more().min(digits);
+        // a value or two of a new pair, or the lone last codeword
+        let first = if is_basic { self.one } else { self.two };
+        let lone = self.end.one_more();
+        let values = lone.min(first);
+        // on in the same mode, or a codeword to change it
+        let ascii = chars.min(values.one_more());
+        let none = chars.one_more().min(values);
+        // the second value of a pair; with a second and third value the pair is full
+        let one = if is_basic {
+            self.two
+        } else {
+            self.none.two_more()
+        };
+        // the third value: filler and back to ASCII mode or to the lone last codeword, or a value of the character
+        let filler = ascii.one_more().min(lone);
+        let third = if is_basic { self.none } else { self.one };
+        let two = filler.min(third).two_more();
+        Costs {
+            ascii,
+            digit,
+            none,
+            one,
+            two,
+            end: Least::NEVER,
+        }
+    }
+
+    // Stores the row in the work slice, from the place `at` on: of the costs the eight that the writing asks for again.
+    fn store(self, work: &mut [u16], at: usize)
+        requires { at + 8 ≤ length work.old }
+        ensures { work.new ≡ put_at work.old at self }
+    {
+        work[at] = self.ascii.even;
+        work[at + 1] = self.ascii.odd;
+        work[at + 2] = self.none.even;
+        work[at + 3] = self.none.odd;
+        work[at + 4] = self.one.even;
+        work[at + 5] = self.one.odd;
+        work[at + 6] = self.two.even;
+        work[at + 7] = self.two.odd;
     }
 }
 
-// Of the eleven costs the eight that the writing asks for again are stored.
-fn put_row(work: &mut [u16], at: usize, k: Costs)
-    requires { at + 8 ≤ length work.old }
-    ensures { work.new ≡ put_at work.old at k }
-{
-    work[at] = k.ascii.even;
-    work[at + 1] = k.ascii.odd;
-    work[at + 2] = k.none.even;
-    work[at + 3] = k.none.odd;
-    work[at + 4] = k.one.even;
-    work[at + 5] = k.one.odd;
-    work[at + 6] = k.two.even;
-    work[at + 7] = k.two.odd;
+// Where a row holds the costs: in ASCII mode, in C40 mode with no value in the pair, and with one.
+#[derive(Clone, Copy, Debug, PartialEq, Eq)]
+pub enum Column {
+    Ascii = 0,
+    NoValue = 2,
+    OneValue = 4,
+}
+
+impl Column {
+    pub fn place_in_row(self) -> usize
+        ensures { result ≡ place_in_row self }
+    {
+        self as usize
+    }
+
+    // Behind a third value that is a whole character the next pair has no value yet; behind a shift it is to have one.
+    pub fn behind(set: Set) -> Column
+        ensures { result ≡ column_behind set }
+    {
+        match set {
+            Set::Basic => Column::NoValue,
+            Set::Set1 | Set::Set2 | Set::Set3 => Column::OneValue,
+        }
+    }
 }
 
 // Every row, from the end of the text to its beginning, and the costs there.
@@ -230,29 +199,11 @@ pub fn fill(text: &[u8], padded: bool, work: &mut [u16]) -> Costs
     requires { (length text.now ≤ limit) × (work_room ≤ length work.old) }
     ensures { (result ≡ costs_of (cost padded text.now)) × (Filled padded text.now work.old work.new 0) }
 {
-    let mut i = text.len();
-    let mut k = costs_at_end(padded);
-    put_row(work, 8 * i, k);
-    while 0 < i {
-        i -= 1;
-        k = costs_before(text[i], k);
-        put_row(work, 8 * i, k);
+    let mut costs = Costs::at_end(padded);
+    costs.store(work, ROW * text.len());
+    for i in (0..text.len()).rev() {
+        costs = costs.before(text[i]);
+        costs.store(work, ROW * i);
     }
-    k
-}
-
-// Where a row holds the costs in ASCII mode, in C40 mode with no value in the pair, and with one.
-pub const IN_ASCII: usize = 0;
-
-pub const NO_VALUE: usize = 2;
-
-pub const ONE_VALUE: usize = 4;
-
-// Whether exactly n codewords will do from the place i on.
-pub fn fits(work: &[u16], i: usize, column: usize, n: usize) -> bool
-    requires { 8 * i + column + 2 ≤ length work.now }
-    ensures { result ≡ leb (get_or work.now (8 * i + column + n % 2) 0) n }
-{
-    let cost = work[8 * i + column + n % 2] as usize;
-    cost <= n
+    costs
 }

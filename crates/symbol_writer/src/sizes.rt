@@ -1,49 +1,48 @@
 // The choice of the size: the smallest capacity with a sequence that reads as the text, and within it the fewest codewords.
-ghost use Rattle.std.specs.Prelude.{◌≡◌, leb};
-ghost use Rattle.optimum.specs.Write.{odd};
-ghost use Rattle.symbol_writer.specs.Rows.{least_at};
-ghost use Rattle.symbol_writer.specs.Sizes.{IsSize};
+ghost use Rattle.std.specs.Prelude.{◌≡◌, ◌≤◌, false, List, ℕ};
+ghost use Rattle.codeword.specs.Sizes.{capacities, most_codewords};
+ghost use Rattle.optimum.specs.Cost.{asc, cost};
+ghost use Rattle.optimum.specs.Write.{choose, fewest};
+ghost use Rattle.symbol_writer.specs.Rows.{least_of};
 
 use super::costs::Least;
 
 // The capacity, the codewords before the pads, and whether there is a pad.
-#[derive(Clone, Copy)]
-pub enum Size {
-    At(usize, usize, bool),
-    NoneFits,
+#[derive(Clone, Copy, Debug, PartialEq, Eq)]
+pub struct Size {
+    pub capacity: usize,
+    pub used: usize,
+    pub padded: bool,
+    pub ghost room: { used ≤ capacity },
+    pub ghost most: { capacity ≤ most_codewords },
 }
 
-// Whether exactly n codewords will do: the cost of n's parity decides.
-fn full_fits(full: Least, n: usize) -> bool
-    ensures { result ≡ leb (least_at full (odd n)) n }
-{
-    if n % 2 == 0 {
-        let even = full.even as usize;
-        return even <= n;
-    }
-    let odd = full.odd as usize;
-    odd <= n
-}
+impl Size {
+    ghost use Rattle.symbol_writer.specs.Sizes.{choice_of};
 
-// The sizes up to the largest permitted, from the smallest: with a pad behind the fewest codewords, or exactly full.
-#[tactic(auto, unfolding(codeword::specs::Sizes::capacities))]
-pub fn choose_size(largest: usize, fewest: usize, full: Least) -> Size
-    ensures { IsSize largest fewest full result }
-{
-    let sizes = codeword::all_capacities();
-    let mut k = 0;
-    while k < 24 {
-        let capacity = sizes[k];
-        if largest < capacity {
-            return Size::NoneFits;
+    // The sizes up to the largest permitted, from the smallest: with a pad behind the fewest codewords, or exactly full.
+    pub fn choose(largest: usize, shortest: usize, full: Least) -> Option<Size>
+        ensures { (t : List ℕ) → shortest ≡ fewest t → full ≡ least_of (cost false t asc) → choice_of result ≡ choose capacities largest t }
+    {
+        for &capacity in codeword::all_capacities() {
+            if largest < capacity {
+                return None;
+            }
+            if shortest < capacity {
+                return Some(Size {
+                    capacity,
+                    used: shortest,
+                    padded: true,
+                });
+            }
+            if full.allows(capacity) {
+                return Some(Size {
+                    capacity,
+                    used: capacity,
+                    padded: false,
+                });
+            }
         }
-        if fewest < capacity {
-            return Size::At(capacity, fewest, true);
-        }
-        if full_fits(full, capacity) {
-            return Size::At(capacity, capacity, false);
-        }
-        k += 1;
+        None
     }
-    Size::NoneFits
 }

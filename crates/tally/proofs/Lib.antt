@@ -1,8 +1,7 @@
 -- What several proofs use, here and above.
-pub mod Slots
 pub mod Counts
+pub mod Walk
 pub mod Totals
 pub mod Low
 pub mod Week
-pub mod Here
 pub mod Order

@@ -9,6 +9,7 @@ use lib.ListN.{length, get_or, drop}
 use Rattle.refusal.specs.Pick.{pick}
 use Rattle.refusal.specs.Answers.{Answer, good, refused, ◌>>=◌, ◌>>◌, check}
 use Rattle.refusal.specs.Among.{among}
+use Rattle.refusal.specs.Classes.{upper}
 use Rattle.refusal.specs.Limits.{limit, most_fields}
 use Rattle.dictionary.specs.Rows.{rows}
 use Rattle.dictionary.specs.Dictionary.{Dictionary, full, find, rows_of}
@@ -16,6 +17,7 @@ use Rattle.dictionary.specs.declared.Row.{Row}
 use Rattle.dictionary.specs.declared.Field.{Field}
 use Rattle.base32.specs.Base32.{in_alphabet}
 use Rattle.header.specs.Header.{size, version_of, part, parts, known, read_header, upper_or_digit, hex}
+use Rattle.header.specs.inner.Code.{perimeter_in, country_in}
 use Rattle.header.specs.declared.Version.{Version}
 use Rattle.header.specs.declared.Version.TheVariants.{V02, V03, V04}
 use Rattle.text.specs.Signature.{length_of_chars, wrong_number, signature_chars, read_signature, spare_of}
@@ -23,10 +25,8 @@ use Rattle.text.specs.Zone.{does, on_does, Piece, read_data, zone}
 use Rattle.text.specs.Text.{Halves, further, at_mark, Received, reading, read_text}
 use Rattle.text.specs.declared.Does.{Does}
 use Rattle.text.specs.declared.Does.TheVariants.{More, Ends, Cuts, Follows, Wrong}
+use Rattle.conformity.specs.Conformity.{column_of}
 use Rattle.tally.specs.Counting.{slot_of, slot_in}
-use Rattle.tally.proofs.Slots.{column_small}
-use Rattle.refusal.specs.Classes.{upper}
-use Rattle.header.specs.inner.Code.{perimeter_in, country_in}
 
 abbrev Low : {A : Type 0} → Answer A → Type 0
 Low (good a) = Unit {0}
@@ -160,6 +160,18 @@ low_reading d t =
 low_text : (d : Dictionary) (room : ℕ) (t : List ℕ) → Low (read_text d room t)
 unfolding read_text
 low_text d room t = test (leb (length t) limit) 5 limit _ (omega arith) (test (leb most_fields room) 6 0 _ (omega arith) (low_reading d t))
+
+-- a column
+small_pick : (b : Bool) (x y : ℕ) → x < 262 → y < 262 → pick b x y < 262
+small_pick true x y h k = h
+small_pick false x y h k = k
+
+column_small : (a b : ℕ) → column_of a b < 262
+unfolding column_of
+column_small a b =
+    small_pick (eqb a 48) _ _
+    (small_pick (eqb b 48) 0 _ (omega arith) (small_pick (eqb b 49) 1 _ (omega arith) (small_pick (eqb b 50) 2 5 (omega arith) (omega arith))))
+    (small_pick (eqb a 66) _ 5 (small_pick (eqb b 48) 3 _ (omega arith) (small_pick (eqb b 49) 4 5 (omega arith) (omega arith))) (omega arith))
 
 -- EVERY TEXT HAS ITS PLACE
 pub slot_small : (text : List ℕ) → slot_in text < 262

@@ -10,15 +10,15 @@ use native.Mathlib.Nat.{not-suc-le-zero}
 use lib.Dec.{ltb}
 use lib.ListN.{length, get_or, set, take, drop, take-append-drop}
 use Rattle.refusal.specs.Pick.{pick}
-use Rattle.refusal.specs.Answers.{Answer, good, refused, ◌>>◌, check}
+use Rattle.refusal.specs.Answers.{Answer, good, refused}
 use Rattle.refusal.specs.Numbers.{count_full}
-use Rattle.refusal.proofs.Binds.{by_bind, same_good}
+use Rattle.refusal.proofs.Binds.{by_bind, by_check, same_good}
 use Rattle.day_file.specs.File.{Scan}
 use Rattle.day_file.specs.Opening.{records}
 use Rattle.squeeze.specs.Squeeze.{is_live, live_ones}
 use Rattle.tally.specs.Counting.{most_count, slot_in, add_text, add_scan, add_all, counting, sum, accepted_in, refused_in, tally_after, week, live_in, if_added, live_added}
 use Rattle.tally.specs.declared.Tally.{Tally}
-use Rattle.tally.proofs.Counts.{more_at, scan_long}
+use Rattle.tally.proofs.Counts.{scan_long}
 
 sum_append : (l m : List ℕ) → sum (l ++ m) ≡ sum l + sum m
 unfolding sum
@@ -39,11 +39,9 @@ in_all t = sym (sum_append (take 6 t.counts) (drop 6 t.counts)) ∙ ap sum (take
 module _ (small : (text : List ℕ) → slot_in text < 262) where
   text_total : (text : List ℕ) (t u : Tally) → length t.counts ≡ 262 → add_text text t ≡ good u → sum u.counts ≡ sum t.counts + 1
   unfolding add_text
-  text_total text t u n e = go (ltb (get_or t.counts (slot_in text) 0) most_count) e
-    where
-      go : (b : Bool) → (check b count_full 0 >> good (more_at t (slot_in text))) ≡ good u → sum u.counts ≡ sum t.counts + 1
-      go true q = let z : more_at t (slot_in text) ≡ u = same_good q in ap (λ (v : Tally). sum v.counts) (sym z) ∙ sum_more t.counts (slot_in text) (omega (arith, small text, n))
-      go false q = let z : ◌≡◌ {A = ℕ} 0 1 = cc in absurd (omega arith)
+  text_total text t u n e =
+      by_check (ltb (get_or t.counts (slot_in text) 0) most_count) count_full 0 _ e λ _ q.
+      ap (λ (v : Tally). sum v.counts) (sym (same_good q)) ∙ sum_more t.counts (slot_in text) (omega (arith, small text, n))
 
   pub list_total : (rs : List Scan) (t u : Tally) → length t.counts ≡ 262 → add_all rs t ≡ good u
       → (sum u.counts ≡ sum t.counts + length (live_ones rs)) × (length u.counts ≡ 262)

@@ -1,13 +1,11 @@
 -- Text to message and back (document 01, "The text" and "Numbers that come back"), over any dictionary.
-use Rattle.std.specs.Prelude.{ℕ, suc, ◌+◌, Bool, true, false, not, ◌&&◌, List, [], ◌∷◌, ◌++◌, ◌≡◌, leb, eqb, length, take, drop}
+use Rattle.std.specs.Prelude.{ℕ, suc, ◌+◌, Bool, true, false, not, ◌&&◌, Option, Some, None, List, [], ◌∷◌, ◌++◌, ◌≡◌, leb, eqb, length, take, drop}
 use Rattle.refusal.specs.Pick.{pick}
 use Rattle.refusal.specs.Answers.{Answer, good, refused, ◌>>=◌, ◌>>◌, check}
 use Rattle.refusal.specs.Numbers.{text_too_long, lent_too_short, no_mark, wrong_character, data_too_short, identifier_repeated, data_too_long, fixed_cut, too_many_fields, bad_record}
 use Rattle.refusal.specs.Limits.{limit, most_fields}
 use Rattle.refusal.specs.Among.{among}
 use Rattle.dictionary.specs.Dictionary.{Dictionary, allowed, fixed, full, row_at, rows_of}
-use Rattle.dictionary.specs.declared.Greatest.{Greatest}
-use Rattle.dictionary.specs.declared.Greatest.TheVariants.{UpTo, NoLimit}
 use Rattle.dictionary.specs.declared.Row.{Row}
 use Rattle.dictionary.specs.declared.Field.{Field}
 use Rattle.header.specs.declared.Header.{Header}
@@ -64,9 +62,9 @@ signed_length (refused k p) = 0
 abbrev pub data_of : List ℕ → Field → List ℕ
 data_of source f = take f.length (drop f.start source)
 
-abbrev pub within : Greatest → ℕ → Bool
-within (UpTo n) m = leb m n
-within NoLimit m = true
+abbrev pub within : Option ℕ → ℕ → Bool
+within (Some n) m = leb m n
+within None m = true
 
 -- each character may stand behind those before it
 unfoldable pub in_turn : Row → (chars : List ℕ) → List ℕ → Bool

@@ -3,378 +3,248 @@
 
 #![tactic(auto)]
 
-ghost use Rattle.std.specs.Prelude.{◌&&◌, ◌≡◌, List, [], ℕ, ◌+◌, ◌*◌, ◌<◌, ◌≤◌, length, get_or, take};
+ghost use Rattle.std.specs.Prelude.{◌≡◌, ◌==◌, [], ◌+◌, ◌*◌, ◌/◌, ◌<◌, ◌≤◌, length, get_or, IfOk, All};
 ghost use Rattle.refusal.specs.Limits.{most_fields};
+ghost use Rattle.refusal.specs.Answers.{good};
 ghost use Rattle.refusal.specs.Over.{over};
-ghost use Rattle.refusal.specs.Among.{among};
-ghost use Rattle.refusal.specs.Answers.{good, refused};
-ghost use Rattle.dictionary.specs.Dictionary.{fixed, rows_of};
-ghost use Rattle.dictionary.specs.Rows.{rows as theRows};
-ghost use Rattle.dictionary.specs.inner.Lookup.{row_table};
-ghost use Rattle.dictionary.specs.declared.Field.{Field as FieldOf};
-ghost use Rattle.header.specs.Header.{size, version_of, header_chars, write_header};
-ghost use Rattle.text.specs.Signature.{length_of_bytes};
-ghost use Rattle.text.specs.Text.{within, in_turn, spelled, write_field, write_zone, writing, write_data, ending};
-ghost use Rattle.text_writer.specs.Writing.{message_of, text_written, WritePromised};
-ghost use Rattle.text_writer.specs.inner.Room.{widest, room_of, Below, mark_chars, Inside, field_chars, zone_chars, text_chars};
+ghost use Rattle.refusal.specs.Said.{says, turned};
+ghost use Rattle.std.specs.List.{list_any};
+ghost use Rattle.dictionary.specs.Rows.{rows};
+ghost use Rattle.header.specs.Header.{size, version_of};
+ghost use Rattle.text.specs.Text.{in_turn, ending, spelled, write_data, write_field, write_zone, writing};
+ghost use Rattle.text_writer.specs.Writing.{message_of, WritePromised};
+ghost use Rattle.text_writer.specs.inner.Room.{widest, mark_chars, lies_in, field_chars, zone_chars, text_chars};
 
-use dictionary::{Field, Fields, Greatest, Row};
+use dictionary::{Field, Row};
 use header::{Header, Version};
-use refusal::Refusal;
-
-// The length of the text that was written.
-#[derive(Clone, Copy)]
-pub enum TextWritten {
-    Written(usize),
-    Refused(Refusal),
-}
-
-// The room that characters take, or why they may not be written.
-#[derive(Clone, Copy)]
-pub enum Room {
-    Takes(usize),
-    Refused(Refusal),
-}
-
-fn refuse(number: u8, place: usize) -> Room
-    ensures { result ≡ room_of (refused number place) }
-{
-    Room::Refused(Refusal {
-        number: number,
-        place: place,
-    })
-}
-
-fn no_text(number: u8, place: usize) -> TextWritten
-    ensures { result ≡ text_written (refused number place) }
-{
-    TextWritten::Refused(Refusal {
-        number: number,
-        place: place,
-    })
-}
-
-fn wide(x: u32) -> usize
-    ensures is { result ≡ x }
-    ensures small { result < widest }
-{
-    x as usize
-}
-
-fn row_number(x: u16) -> usize
-    ensures { result ≡ x }
-{
-    x as usize
-}
+use refusal::{LIMIT, MOST_FIELDS, Reason, Refusal};
+use text::{CUT_MARK, SEPARATOR, ZONE_END};
 
 // Is a record of this row among those before it?
-fn is_taken(row: u16, rows: &[u16]) -> bool
-    ensures { result ≡ among row rows.now }
+fn is_taken(row: u16, before: &[Field]) -> bool
+    ensures { result ≡ list_any (λ f. row == f.row) before.now }
 {
-    let mut i = 0;
-    while i < rows.len() {
-        if row == rows[i] {
-            return true;
+    before.iter().any(|f| row == f.row)
+}
+
+// The data of a record, and the row that they are of.
+#[derive(Clone, Copy)]
+struct Data<'a> {
+    row: Row,
+    chars: &'a [u8],
+    cut: bool,
+}
+
+impl Data<'_> {
+    // Each character may stand behind those before it.
+    #[tactic(auto, using(crate::proofs::Checks::turn, crate::proofs::Checks::turn_end))]
+    fn all_stand(self) -> bool
+        ensures { result ≡ in_turn self.entry.row [] self.entry.chars.now }
+    {
+        for (n, &c) in self.chars.iter().enumerate() {
+            if !self.row.may_stand(self.chars, 0, n, c) {
+                return false;
+            }
         }
-        i += 1;
+        true
     }
-    false
-}
 
-fn is_within(m: Greatest, n: usize) -> bool
-    ensures { result ≡ within m n }
-{
-    match m {
-        Greatest::UpTo(k) => n <= k,
-        Greatest::NoLimit => true,
-    }
-}
-
-// 26: fixed data have no cut mark.
-fn is_cut_wrong(r: Row, cut: bool) -> bool
-    ensures { result ≡ (cut && fixed r) }
-{
-    if cut {
-        return dictionary::is_fixed(r);
-    }
-    false
-}
-
-// Each character may stand behind those before it.
-fn all_stand(r: Row, chars: &[u8]) -> bool
-    ensures { result ≡ in_turn r [] chars.now }
-{
-    let mut i = 0;
-    while i < chars.len() {
-        if !dictionary::may_stand(r, chars, 0, i, chars[i]) {
-            return false;
+    // The mark behind the data: 30 if they are cut, 29 if they could be longer, else none.
+    fn mark(self) -> Option<u8>
+        ensures { mark_chars result ≡ ending self.entry.row self.entry.chars.now self.entry.cut }
+    {
+        if self.cut {
+            return Some(CUT_MARK);
         }
-        i += 1;
+        if self.row.is_full(self.chars.len()) {
+            return None;
+        }
+        Some(SEPARATOR)
     }
-    true
+
+    // Of the checks of the i-th record those that look at its data: 26, 25, 18, 19. And the room of identifier, data and mark.
+    #[tactic(auto, unfolding(text::specs::Text::write_data))]
+    fn room(self, i: usize) -> Result<usize, Refusal>
+        requires { length self.chars.now < widest }
+        ensures says { says result ≡ turned length (write_data self.entry.row self.entry.chars.now self.entry.cut i) }
+        ensures small { IfOk result (λ n. n < widest + 3) }
+    {
+        let n = self.chars.len();
+        if self.cut && self.row.is_fixed() {
+            return Err(Reason::FixedCut.at(i));
+        }
+        if self.row.greatest.is_some_and(|greatest| greatest < n) {
+            return Err(Reason::DataTooLong.at(i));
+        }
+        if !self.all_stand() {
+            return Err(Reason::WrongCharacter.at(i));
+        }
+        if n < self.row.least {
+            return Err(Reason::DataTooShort.at(i));
+        }
+        match self.mark() {
+            Some(_) => Ok(n + 3),
+            None => Ok(n + 2),
+        }
+    }
+
+    // Identifier, data and mark over the front of the output, and how many characters they are.
+    fn write(self, out: &mut [u8]) -> usize
+        requires { (length self.chars.now < widest) × (length (spelled self.row self.chars.now self.cut) ≤ length out.old) }
+        ensures is { result ≡ length (spelled self.entry.row self.entry.chars.now self.entry.cut) }
+        ensures written { out.new ≡ over (spelled self.entry.row self.entry.chars.now self.entry.cut) out.old }
+    {
+        let end = self.chars.len() + 2;
+        out[0] = self.row.first;
+        out[1] = self.row.second;
+        out[2..end].copy_from_slice(self.chars);
+        match self.mark() {
+            Some(mark) => {
+                out[end] = mark;
+                end + 1
+            }
+            None => end,
+        }
+    }
 }
 
-// The mark behind n characters of data: 30 if they are cut, 29 if they could be longer, else none, for which 0 stands.
-fn mark_of(r: Row, n: usize, cut: bool) -> u8
-    ensures { (chars : List ℕ) → length chars ≡ n → mark_chars result ≡ ending r chars cut }
+// One record, behind those before it. Start and length are added as numbers of 64 bits, so that the sum is exact.
+#[tactic(auto, using(crate::proofs::Checks::any_row), unfolding(text::specs::Text::write_field))]
+fn room_of_field(field: Field, before: &[Field], source: &[u8]) -> Result<usize, Refusal>
+    ensures says { says result ≡ turned length (write_field rows source.now before.now (length before.now) field) }
+    ensures small { IfOk result (λ n. n < widest + 3) }
 {
-    if cut {
-        return 30;
+    let i = before.len();
+    let row = dictionary::row_at(usize::from(field.row)).ok_or(Reason::BadRecord.at(i))?;
+    let start = field.start as usize;
+    let end = start + field.length as usize;
+    let chars = source.get(start..end).ok_or(Reason::BadRecord.at(i))?;
+    if is_taken(field.row, before) {
+        return Err(Reason::IdentifierRepeated.at(i));
     }
-    let m = r.greatest;
-    if dictionary::is_greatest(m, n) {
-        return 0;
-    }
-    29
-}
-
-// Identifier, data and mark.
-fn room_spelled(r: Row, chars: &[u8], cut: bool) -> usize
-    requires { length chars.now < widest }
-    ensures is { result ≡ length (spelled r chars.now cut) }
-    ensures small { result < widest + 3 }
-{
-    let n = chars.len();
-    if mark_of(r, n, cut) == 0 {
-        return n + 2;
-    }
-    n + 3
-}
-
-// Of a record's checks those that look at its data: 26, 25, 18, 19.
-fn room_of_data(r: Row, chars: &[u8], cut: bool, i: usize) -> Room
-    requires { length chars.now < widest }
-    ensures says { result ≡ room_of (write_data r chars.now cut i) }
-    ensures small { Below (widest + 3) result }
-{
-    if is_cut_wrong(r, cut) {
-        return refuse(refusal::FIXED_CUT, i);
-    }
-    let n = chars.len();
-    let m = r.greatest;
-    if !is_within(m, n) {
-        return refuse(refusal::DATA_TOO_LONG, i);
-    }
-    if !all_stand(r, chars) {
-        return refuse(refusal::WRONG_CHARACTER, i);
-    }
-    if n < r.least {
-        return refuse(refusal::DATA_TOO_SHORT, i);
-    }
-    Room::Takes(room_spelled(r, chars, cut))
-}
-
-// One record, whose place is its index i. `table` is the dictionary's, lent; `rows` are the rows of the records before it. Start and
-// length are added as numbers of 64 bits, so that the sum is exact.
-fn room_of_field(
-    table: &[u8; dictionary::TABLE_SIZE],
-    f: Field,
-    rows: &[u16],
-    source: &[u8],
-    i: usize,
-) -> Room
-    requires { table.now ≡ row_table }
-    ensures says { (before : List FieldOf) → rows_of before ≡ rows.now → result ≡ room_of (write_field theRows source.now before i f) }
-    ensures small { Below (widest + 3) result }
-{
-    let found = dictionary::row_at(table, row_number(f.row));
-    let dictionary::RowFound::Is(r) = found else {
-        return refuse(refusal::BAD_RECORD, i);
+    let data = Data {
+        row,
+        chars,
+        cut: field.cut,
     };
-    let start = wide(f.start);
-    let end = start + wide(f.length);
-    if source.len() < end {
-        return refuse(refusal::BAD_RECORD, i);
-    }
-    if is_taken(f.row, rows) {
-        return refuse(refusal::IDENTIFIER_REPEATED, i);
-    }
-    room_of_data(r, &source[start..end], f.cut, i)
+    data.room(i)
 }
 
-// The records one by one, to the end of one before the next. The rows so far stand in an array of their own, so that no call copies the list.
-fn room_of_zone(fields: Fields, source: &[u8]) -> Room
-    requires { fields.count ≤ most_fields }
-    ensures says { result ≡ room_of (write_zone theRows source.now [] 0 (take fields.count fields.list)) }
-    ensures small { Below (most_fields * (widest + 3)) result }
+// The records one by one, to the end of one before the next.
+#[tactic(auto, using(crate::proofs::Zones::start, crate::proofs::Zones::next, crate::proofs::Zones::stop))]
+fn room_of_zone(fields: &[Field], source: &[u8]) -> Result<usize, Refusal>
+    requires { length fields.now ≤ most_fields }
+    ensures says { says result ≡ turned length (write_zone rows source.now [] 0 fields.now) }
+    ensures small { IfOk result (λ n. n < most_fields * (widest + 3)) }
 {
-    let table = dictionary::all_rows();
-    let mut rows = [0u16; refusal::MOST_FIELDS];
-    let mut total = 0;
-    let mut i = 0;
-    while i < fields.count {
-        let f = fields.list[i];
-        let one = room_of_field(&table, f, &rows[..i], source, i);
-        let Room::Takes(n) = one else {
-            return one;
-        };
-        rows[i] = f.row;
-        total += n;
-        i += 1;
+    let mut room = 0;
+    for (i, &field) in fields.iter().enumerate() {
+        room += room_of_field(field, &fields[..i], source)?;
     }
-    Room::Takes(total)
+    Ok(room)
 }
 
-// A header has as many characters as its version says.
-fn header_size(h: Header, v: Version) -> usize
-    ensures chars { result ≡ length (header_chars v h) }
-    ensures size { result ≡ size v }
-    ensures small { result < 27 }
+// A record's characters over the front of the output, and how many they are.
+#[tactic(auto, using(crate::proofs::Fills::data_long))]
+fn write_field(field: Field, source: &[u8], out: &mut [u8]) -> usize
+    requires { lies_in (length source.now) field × (length (field_chars rows source.now field) ≤ length out.old) }
+    ensures is { result ≡ length (field_chars rows source.now field) }
+    ensures written { out.new ≡ over (field_chars rows source.now field) out.old }
 {
-    header::size_of(v)
-}
-
-// Of a known version, left to right what reading the header's characters would refuse.
-fn room_of_header(h: Header, v: Version) -> Room
-    requires { version_of (get_or h.version 0 0) (get_or h.version 1 0) ≡ good v }
-    ensures says { result ≡ room_of (write_header h) }
-    ensures small { Below 27 result }
-{
-    let wrong = header::check_header(h);
-    if wrong.number != 0 {
-        return Room::Refused(wrong);
-    }
-    Room::Takes(header_size(h, v))
-}
-
-// The lengths of a signature, in bytes.
-fn is_signature(n: usize) -> bool
-    ensures { result ≡ length_of_bytes n }
-{
-    match n {
-        64 => true,
-        96 => true,
-        132 => true,
-        _ => false,
-    }
-}
-
-// The header, then record by record, then 21.
-fn room_of_text(header: Header, v: Version, fields: Fields, source: &[u8], signature: &[u8]) -> Room
-    requires { (version_of (get_or header.version 0 0) (get_or header.version 1 0) ≡ good v) × (fields.count ≤ most_fields) }
-    ensures { result ≡ room_of (writing theRows (message_of header fields signature.now) source.now) }
-{
-    let head = room_of_header(header, v);
-    let Room::Takes(h) = head else {
-        return head;
-    };
-    let zone = room_of_zone(fields, source);
-    let Room::Takes(z) = zone else {
-        return zone;
-    };
-    let n = signature.len();
-    if !is_signature(n) {
-        return refuse(refusal::SIGNATURE_LENGTH, 0);
-    }
-    Room::Takes(h + z + 1 + (8 * n + 4) / 5)
-}
-
-// Identifier, data and mark over the front of the output, and how many characters they are.
-fn write_spelled(r: Row, chars: &[u8], cut: bool, out: &mut [u8]) -> usize
-    requires { (length chars.now < widest) × (length (spelled r chars.now cut) ≤ length out.old) }
-    ensures is { result ≡ length (spelled r chars.now cut) }
-    ensures written { out.new ≡ over (spelled r chars.now cut) out.old }
-{
-    let n = chars.len();
-    let mark = mark_of(r, n, cut);
-    out[0] = r.first;
-    out[1] = r.second;
-    refusal::copy(chars, &mut out[2..], n);
-    if mark == 0 {
-        return n + 2;
-    }
-    out[n + 2] = mark;
-    n + 3
-}
-
-// A record's characters over the front of the output, and how many they are. `table` is the dictionary's, lent.
-fn write_field(
-    table: &[u8; dictionary::TABLE_SIZE],
-    f: Field,
-    source: &[u8],
-    out: &mut [u8],
-) -> usize
-    requires { (table.now ≡ row_table) × (f.start + f.length ≤ length source.now) × (length (field_chars theRows source.now f) ≤ length out.old) }
-    ensures is { result ≡ length (field_chars theRows source.now f) }
-    ensures written { out.new ≡ over (field_chars theRows source.now f) out.old }
-{
-    let found = dictionary::row_at(table, row_number(f.row));
-    let dictionary::RowFound::Is(r) = found else {
+    let Some(row) = dictionary::row_at(usize::from(field.row)) else {
         return 0;
     };
-    let start = wide(f.start);
-    let end = start + wide(f.length);
-    write_spelled(r, &source[start..end], f.cut, out)
+    let start = field.start as usize;
+    let end = start + field.length as usize;
+    let data = Data {
+        row,
+        chars: &source[start..end],
+        cut: field.cut,
+    };
+    data.write(out)
 }
 
 // The records side by side over the front of the output, and how many characters they are.
-fn write_zone(fields: Fields, source: &[u8], out: &mut [u8]) -> usize
-    requires { (fields.count ≤ most_fields) × Inside (length source.now) (take fields.count fields.list) × (length (zone_chars theRows source.now (take fields.count fields.list)) ≤ length out.old) }
-    ensures is { result ≡ length (zone_chars theRows source.now (take fields.count fields.list)) }
-    ensures written { out.new ≡ over (zone_chars theRows source.now (take fields.count fields.list)) out.old }
+fn write_zone(fields: &[Field], source: &[u8], out: &mut [u8]) -> usize
+    requires { All (lies_in (length source.now)) fields.now × (length (zone_chars rows source.now fields.now) ≤ length out.old) }
+    ensures is { result ≡ length (zone_chars rows source.now fields.now) }
+    ensures written { out.new ≡ over (zone_chars rows source.now fields.now) out.old }
 {
-    let table = dictionary::all_rows();
     let mut p = 0;
-    let mut i = 0;
-    while i < fields.count {
-        let f = fields.list[i];
-        let n = write_field(&table, f, source, &mut out[p..]);
-        p += n;
-        i += 1;
+    for &field in fields {
+        p += write_field(field, source, &mut out[p..]);
     }
     p
 }
 
-// Header, records, the mark 31, and the signature, straight into the tail of the output behind the mark.
-fn write_parts(
+// A message that is to be written, and its version.
+#[derive(Clone, Copy)]
+struct Message<'a> {
     header: Header,
-    v: Version,
-    fields: Fields,
-    source: &[u8],
-    signature: &[u8],
-    out: &mut [u8],
-)
-    requires { (fields.count ≤ most_fields) × Inside (length source.now) (take fields.count fields.list) × (length signature.now ≤ 132) × (length (text_chars theRows v header fields signature.now source.now) ≤ length out.old) }
-    ensures { out.new ≡ over (text_chars theRows v header fields signature.now source.now) out.old }
-{
-    let h = header_size(header, v);
-    header::write_header(header, v, out);
-    let n = write_zone(fields, source, &mut out[h..]);
-    let m = h + n;
-    out[m] = 31;
-    let p = m + 1;
-    base32::write_base32(signature, &mut out[p..]);
+    version: Version,
+    fields: &'a [Field],
+    source: &'a [u8],
+    signature: &'a [u8],
 }
 
-// A message as a text. In this order: 27; 12, 13, 14 with the place in the header; the records one by one; 21; 5; 6. The count says how many
-// records the caller has, of which the list holds 64 at most.
+impl Message<'_> {
+    // The room of its text: of the header, then record by record, then 21.
+    #[tactic(auto, using(crate::proofs::Texts::text_room, crate::proofs::Texts::header_long))]
+    fn room(self) -> Result<usize, Refusal>
+        requires { (version_of (get_or self.header.version 0 0) (get_or self.header.version 1 0) ≡ good self.version) × (length self.fields.now ≤ most_fields) }
+        ensures { says result ≡ turned length (writing rows (message_of self.entry.header self.entry.fields.now self.entry.signature.now) self.entry.source.now) }
+    {
+        header::check_header(self.header)?;
+        let zone = room_of_zone(self.fields, self.source)?;
+        let n = self.signature.len();
+        if !matches!(n, 64 | 96 | 132) {
+            return Err(Reason::SignatureLength.at(0));
+        }
+        Ok(self.version.size() + zone + 1 + (8 * n).div_ceil(5))
+    }
+
+    // Header, records, the mark 31, and the signature, straight into the tail of the output behind the mark.
+    fn write(self, out: &mut [u8])
+        requires { All (lies_in (length self.source.now)) self.fields.now × (length self.signature.now ≤ 132) × (size self.version + length (zone_chars rows self.source.now self.fields.now) + 1 + (8 * length self.signature.now + 4) / 5 ≤ length out.old) }
+        ensures { out.new ≡ over (text_chars rows self.entry.version self.entry.header self.entry.fields.now self.entry.signature.now self.entry.source.now) out.old }
+    {
+        let h = self.version.size();
+        header::write_header(self.header, self.version, out);
+        let mark = h + write_zone(self.fields, self.source, &mut out[h..]);
+        out[mark] = ZONE_END;
+        base32::write_base32(self.signature, &mut out[mark + 1..]);
+    }
+}
+
+// A message as a text. In this order: 27; 12, 13, 14 with the place in the header; the records one by one; 21; 5; 6.
+#[tactic(auto, using(crate::proofs::Texts::too_many, crate::proofs::Texts::unknown, crate::proofs::Texts::refusal_shown), unfolding(text::specs::Text::write_text))]
 pub fn write_text(
     header: Header,
-    fields: Fields,
+    fields: &[Field],
     source: &[u8],
     signature: &[u8],
     out: &mut [u8],
-) -> TextWritten
-    ensures { WritePromised header fields signature.now source.now out.old out.new result }
+) -> Result<usize, Refusal>
+    ensures { WritePromised header fields.now signature.now source.now out.old out.new result }
 {
-    if refusal::MOST_FIELDS < fields.count {
-        return no_text(refusal::TOO_MANY_FIELDS, refusal::MOST_FIELDS);
+    if fields.len() > MOST_FIELDS {
+        return Err(Reason::TooManyFields.at(MOST_FIELDS));
     }
-    let header::VersionRead::Known(v) = header::header_version(header) else {
-        return no_text(refusal::UNKNOWN_VERSION, 2);
+    let version = header::header_version(header).ok_or(Reason::UnknownVersion.at(2))?;
+    let message = Message {
+        header,
+        version,
+        fields,
+        source,
+        signature,
     };
-    let n = match room_of_text(header, v, fields, source, signature) {
-        Room::Takes(n) => n,
-        Room::Refused(x) => {
-            return TextWritten::Refused(x);
-        }
-    };
-    if refusal::LIMIT < n {
-        return no_text(refusal::TEXT_TOO_LONG, refusal::LIMIT);
+    let n = message.room()?;
+    if n > LIMIT {
+        return Err(Reason::TextTooLong.at(LIMIT));
     }
-    if out.len() < n {
-        return no_text(refusal::LENT_TOO_SHORT, 0);
+    if n > out.len() {
+        return Err(Reason::LentTooShort.at(0));
     }
-    write_parts(header, v, fields, source, signature, out);
-    TextWritten::Written(n)
+    message.write(out);
+    Ok(n)
 }

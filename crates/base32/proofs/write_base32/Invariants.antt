@@ -1,13 +1,8 @@
--- `write_base32` meets its contract. The invariant: the characters of the groups passed stand at the front, and the others are those of the rest.
-use Prim.Native.Nat.{◌-◌, ◌*◌, ◌≤◌}
-use mathlib.Core.Path.{◌≡◌}
-use lib.ListN.{length}
+-- `write_base32` meets its contract. The invariant: the characters so far and those of the bytes left are the characters of all, and
+-- the output behind them is as it was.
+use Rattle.std.proofs.Common.{◌≡◌, ◌*◌, ◌++◌, take, drop}
 use Rattle.base32.specs.Base32.{encoded}
-use Rattle.base32.proofs.Groups.{Filled}
 use Rattle.base32.proofs.write_base32.Given as goal
 
-abbrev pub invariant-loop-p : goal.invariant-loop-p
-invariant-loop-p l = Filled encoded l.bytes l.initial.out l.p l.q l.out × (length l.out ≡ length l.initial.out) × (l.p ≤ length l.bytes) × (5 * l.q ≡ 8 * l.p)
-
-abbrev pub decreases-loop-p : goal.decreases-loop-p
-decreases-loop-p l = length l.bytes - l.p
+abbrev pub invariant-loop-i : goal.invariant-loop-i
+invariant-loop-i l = record { whole : take (8 * l.i) l.out ++ encoded (drop (5 * l.i) l.bytes) ≡ encoded l.bytes; behind : drop (8 * l.i) l.out ≡ drop (8 * l.i) l.initial.out }

@@ -1,12 +1,7 @@
--- How the code finds a character outside the alphabet, and the spare bits of any count of characters.
-use Rattle.std.specs.Prelude.{ℕ, suc, ◌+◌, ◌*◌, ◌/◌, ◌%◌, List, [], ◌∷◌, map}
+-- The spare bits of any count of characters.
+use Rattle.std.specs.Prelude.{ℕ, ◌%◌, List, [], ◌∷◌, map, eqb}
 use Rattle.refusal.specs.Pick.{pick}
-use Rattle.base32.specs.Base32.{in_alphabet, value_of}
-
--- how many characters of the alphabet stand at the front
-unfoldable pub leading : List ℕ → ℕ
-leading [] = 0
-leading (c ∷ l) = pick (in_alphabet c) (suc (leading l)) 0
+use Rattle.base32.specs.Base32.{value_of}
 
 -- the spare low bits of the last value
 unfoldable pub spare : List ℕ → ℕ
@@ -23,30 +18,6 @@ spare (a ∷ b ∷ c ∷ d ∷ e ∷ f ∷ g ∷ h ∷ l) = spare l
 abbrev pub spare_bits_of : List ℕ → ℕ
 spare_bits_of l = spare (map value_of l)
 
--- the bytes of a group, and its values, one by one
-abbrev pub byte1 : (a b : ℕ) → ℕ
-byte1 a b = 8 * a + b / 4
-
-abbrev pub byte2 : (b c d : ℕ) → ℕ
-byte2 b c d = 64 * (b % 4) + 2 * c + d / 16
-
-abbrev pub byte3 : (d e : ℕ) → ℕ
-byte3 d e = 16 * (d % 16) + e / 2
-
-abbrev pub byte4 : (e f g : ℕ) → ℕ
-byte4 e f g = 128 * (e % 2) + 4 * f + g / 8
-
-abbrev pub byte5 : (g h : ℕ) → ℕ
-byte5 g h = 32 * (g % 8) + h
-
-abbrev pub value2 : (a b : ℕ) → ℕ
-value2 a b = 4 * (a % 8) + b / 64
-
-abbrev pub value4 : (b c : ℕ) → ℕ
-value4 b c = 16 * (b % 2) + c / 16
-
-abbrev pub value5 : (c d : ℕ) → ℕ
-value5 c d = 2 * (c % 16) + d / 128
-
-abbrev pub value7 : (d e : ℕ) → ℕ
-value7 d e = 8 * (d % 4) + e / 32
+-- of the last value v, where r characters are left over behind the groups of eight
+abbrev pub spare_in : (r v : ℕ) → ℕ
+spare_in r v = pick (eqb r 0) 0 (pick (eqb r 2) (v % 4) (pick (eqb r 4) (v % 16) (pick (eqb r 5) (v % 2) (pick (eqb r 7) (v % 8) v))))

@@ -1,13 +1,9 @@
--- `generate` meets its contract: after j turns the buffer holds the generator of j roots, with zeros behind it.
-use Prim.Native.Nat.{◌-◌, ◌≤◌}
-use mathlib.Core.List.{◌++◌}
+-- `generate` meets its contract: before the root j the words are those of the generator of the roots before it.
+use Prim.Native.Nat.{◌-◌, ◌≤◌, ◌+◌}
 use mathlib.Core.Path.{◌≡◌}
-use lib.ListN.{length, replicate}
-use Rattle.check_words.specs.Generator.{coeffs}
+use lib.ListN.{length}
+use Rattle.check_words.proofs.Growing.{grown}
 use Rattle.check_words.proofs.generate.Given as goal
 
 abbrev pub invariant-loop-j : goal.invariant-loop-j
-invariant-loop-j l = (l.j ≤ l.n) × (length l.g ≡ l.n) × (l.g ≡ coeffs l.j ++ replicate (l.n - l.j) 0)
-
-abbrev pub decreases-loop-j : goal.decreases-loop-j
-decreases-loop-j l = l.n - l.j
+invariant-loop-j l = (l.j ≤ length l.initial.g + 1) × (l.g ≡ grown (length l.initial.g) (l.j - 1))

@@ -1,76 +1,53 @@
--- What the code's answers say, its table of numbers and how it is read, and the place where it looks for an identifier.
-use Rattle.std.specs.Prelude.{ℕ, ◌+◌, ◌-◌, Bool, true, ◌&&◌, List, [], ◌∷◌, eqb, ltb, leb, take, drop}
+-- What the code's answers say, and the place where it looks for an identifier.
+use Rattle.std.specs.Prelude.{ℕ, ◌+◌, ◌-◌, Bool, true, false, ◌&&◌, Option, Some, None, List, [], ◌∷◌, eqb, leb, take, drop}
 use Rattle.refusal.specs.Pick.{pick}
+use Rattle.refusal.specs.Classes.{between}
 use Rattle.refusal.specs.Answers.{Answer, good, refused}
 use Rattle.refusal.specs.Numbers.{unknown_identifier, bad_record}
-use Rattle.dictionary.specs.declared.Kind.{Kind}
-use Rattle.dictionary.specs.declared.Kind.TheVariants.{Numeric, Alphabetic, Alphanumeric}
-use Rattle.dictionary.specs.declared.Greatest.{Greatest}
-use Rattle.dictionary.specs.declared.Greatest.TheVariants.{UpTo, NoLimit}
 use Rattle.dictionary.specs.declared.Row.{Row}
-use Rattle.dictionary.specs.declared.Found.{Found}
-use Rattle.dictionary.specs.declared.Found.TheVariants.{At, Unknown}
-use Rattle.dictionary.specs.declared.RowFound.{RowFound}
-use Rattle.dictionary.specs.declared.RowFound.TheVariants.{Is, NoRow}
+use Rattle.dictionary.specs.declared.Field.{Field}
 use Rattle.dictionary.specs.Dictionary.{Dictionary, Numbered}
-use Rattle.dictionary.specs.Rows.{row, rows}
 
 -- the n characters of a text that start at `start`
 abbrev pub so_far : List ℕ → (start n : ℕ) → List ℕ
 so_far text start n = take n (drop start text)
 
 -- the answer of the search, for an identifier that stands at the place p
-abbrev pub found_says : Found → (p : ℕ) → Answer Numbered
-found_says (At n r) p = good (record { number = n; row = r })
-found_says Unknown p = refused unknown_identifier p
+abbrev pub found_says : Option (ℕ × Row) → (p : ℕ) → Answer Numbered
+found_says (Some x) p = good (record { number = x.0; row = x.1 })
+found_says None p = refused unknown_identifier p
 
 -- the row of a number, for the record at the place i
-abbrev pub row_found_says : RowFound → (i : ℕ) → Answer Row
-row_found_says (Is r) i = good r
-row_found_says NoRow i = refused bad_record i
+abbrev pub row_found_says : Option Row → (i : ℕ) → Answer Row
+row_found_says (Some r) i = good r
+row_found_says None i = refused bad_record i
 
--- the table's number for a greatest length, 255 being none, and for a type
-abbrev pub greatest_of : ℕ → Greatest
-greatest_of x = pick (eqb x 255) NoLimit (UpTo x)
+-- A section's identifiers leave none out, so the row of ab, if there is one, is the section's first row and as many more as b says:
+-- the digits 0 to 9, and then the letters from 10.
+abbrev pub digit_of : ℕ → Option ℕ
+digit_of b = pick (between 48 57 b) (Some (b - 48)) (pick (between 65 90 b) (Some ((b - 65) + 10)) None)
 
-abbrev pub kind_of : ℕ → Kind
-kind_of x = pick (eqb x 0) Numeric (pick (eqb x 1) Alphabetic Alphanumeric)
+-- the first section begins with 01
+abbrev pub from_01 : ℕ → Option ℕ
+from_01 n = pick (eqb n 0) None (Some (n - 1))
 
--- back to the table's numbers
-abbrev greatest_code : Greatest → ℕ
-greatest_code (UpTo n) = n
-greatest_code NoLimit = 255
+abbrev pub place_in : (a : ℕ) → Option ℕ → Option ℕ
+place_in a None = None
+place_in a (Some n) =
+    pick (eqb a 48) (from_01 n) (
+    pick (eqb a 49) (Some (13 + n)) (
+    pick (eqb a 50) (Some (39 + n)) (
+    pick (eqb a 54) (Some (53 + n)) (
+    pick (eqb a 66) (Some (89 + n)) None))))
 
-abbrev kind_code : Kind → ℕ
-kind_code Numeric = 0
-kind_code Alphabetic = 1
-kind_code Alphanumeric = 2
-
--- rows as one list of numbers, five a row
-unfoldable pub flat : Dictionary → List ℕ
-flat [] = []
-flat (r ∷ d) = r.first ∷ r.second ∷ r.least ∷ greatest_code r.greatest ∷ kind_code r.kind ∷ flat d
-
--- the code's table, which is lent to who looks for a row: the numbers of all rows
-unfoldable pub row_table : List ℕ
-row_table = flat rows
-
--- what stands past the end of the rows
-abbrev pub no_row : Row
-no_row = row 0 0 0 NoLimit Numeric
-
--- A section's identifiers leave none out, so the row of ab, if there is one, is the section's first row and as many more as b says.
--- One is added, since the first section begins with 01.
-unfoldable pub base_of : ℕ → ℕ
-base_of a = pick (eqb a 48) 0 (pick (eqb a 49) 14 (pick (eqb a 50) 40 (pick (eqb a 54) 54 (pick (eqb a 66) 90 111))))
-
-unfoldable pub digit_of : ℕ → ℕ
-digit_of b = pick (ltb b 48) 36 (pick (ltb b 65) (b - 48) (b - 55))
-
-abbrev pub place_of : (a b : ℕ) → ℕ
-place_of a b = (base_of a + digit_of b) - 1
+unfoldable pub place_of : (a b : ℕ) → Option ℕ
+place_of a b = place_in a (digit_of b)
 
 -- no identifier holds a separator
 unfoldable pub plain : Dictionary → Bool
 plain [] = true
 plain (r ∷ d) = (leb 32 r.first && leb 32 r.second) && plain d
+
+-- a record of zeros: what stands where there is no field
+abbrev pub no_field : Field
+no_field = record { row = 0; cut = false; start = 0; length = 0 }

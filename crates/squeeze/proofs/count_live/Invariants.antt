@@ -1,5 +1,5 @@
--- `count_live` meets its contract: a state of 0 or 1 counts itself.
-use Prim.Native.Nat.{◌-◌, ◌≤◌}
+-- With each turn the live ones of one record more are counted.
+use Prim.Native.Nat.{◌≤◌}
 use mathlib.Core.Path.{◌≡◌}
 use lib.ListN.{length, take}
 use Rattle.squeeze.specs.Squeeze.{live_ones}
@@ -7,7 +7,4 @@ use Rattle.squeeze.specs.inner.Code.{scans_in}
 use Rattle.squeeze.proofs.count_live.Given as goal
 
 abbrev pub invariant-loop-i : goal.invariant-loop-i
-invariant-loop-i l = (l.i ≤ l.count) × (l.n ≤ l.i) × (l.n ≡ length (live_ones (take l.i (scans_in l.file l.len))))
-
-abbrev pub decreases-loop-i : goal.decreases-loop-i
-decreases-loop-i l = l.count - l.i
+invariant-loop-i l = (l.n ≤ l.i) × (l.n ≡ length (live_ones (take l.i (scans_in l.file l.len))))

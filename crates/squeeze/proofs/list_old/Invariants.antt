@@ -1,5 +1,4 @@
--- `list_old` meets its contract: with each turn the numbers of one record more.
-use Prim.Native.Nat.{◌-◌, ◌≤◌}
+-- With each turn the numbers of one record more.
 use mathlib.Core.Path.{◌≡◌}
 use lib.ListN.{length, take}
 use Rattle.refusal.specs.Over.{over}
@@ -8,7 +7,4 @@ use Rattle.squeeze.specs.inner.Code.{scans_in}
 use Rattle.squeeze.proofs.list_old.Given as goal
 
 abbrev pub invariant-loop-i : goal.invariant-loop-i
-invariant-loop-i l = (l.i ≤ l.count) × (l.j ≡ length (old_numbers 0 (take l.i (scans_in l.file l.len)))) × (l.old ≡ over (old_numbers 0 (take l.i (scans_in l.file l.len))) l.initial.old) × (length l.old ≡ length l.initial.old)
-
-abbrev pub decreases-loop-i : goal.decreases-loop-i
-decreases-loop-i l = l.count - l.i
+invariant-loop-i l = (l.j ≡ length (old_numbers 0 (take l.i (scans_in l.file l.len)))) × (l.old ≡ over (old_numbers 0 (take l.i (scans_in l.file l.len))) l.initial.old)

@@ -1,12 +1,12 @@
-use native.Mathlib.Omega.{arith}
-use Rattle.symbol_writer.specs.Rows.{work_room}
-use Rattle.symbol_writer.proofs.Whole.{zeros_more, zeros_end}
+use mathlib.Core.Path.{◌≡◌}
+use lib.ListN.{length, take, replicate}
+use lib.Seq.{length-take-le}
+use Rattle.std.proofs.Common.{rules}
+use Rattle.symbol_writer.specs.Symbol.{zeros}
 use Rattle.symbol_writer.proofs.clear.Goals as goal
 
-pub loop-i-preserved : goal.loop-i-preserved
-loop-i-preserved c =
-    let l = c.loop-i in (omega arith, zeros_more work_room c.args.work.now l.work l.i (omega arith) (omega (arith, l.invariant.1.long)) l.invariant.1)
-
 pub returns : goal.returns
+unfolding zeros
 returns c =
-    let l = c.loop-i in zeros_end work_room c.args.work.now l.work l.i (omega arith) (omega (arith, l.invariant.1.long)) l.invariant.1
+    let filled : c.fill.new.self ≡ replicate (length (take 8192 c.args.work.now)) 0 = search rules in
+    rw (filled, length-take-le 8192 c.args.work.now c.requires)

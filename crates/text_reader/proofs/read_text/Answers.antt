@@ -1,17 +1,14 @@
--- `read_text` meets its contract: the two limits, and then the text itself.
-use mathlib.Core.Path.{sym, ap, ◌∙◌}
-use Rattle.text_reader.specs.Answers.{text_answer}
-use Rattle.text_reader.proofs.Whole.{too_long, too_little, in_limits}
+use Rattle.std.proofs.Common.{◌≡◌, Some, arith}
+use Rattle.text_reader.proofs.Whole.{header_fits, mark_fits}
 use Rattle.text_reader.proofs.read_text.Goals as goal
 
-pub returns-then-text-gt-LIMIT : goal.returns-then-text-gt-LIMIT
-returns-then-text-gt-LIMIT c =
-    let a = c.args in c.refuse_text.ensures ∙ ap text_answer (sym (too_long a.room a.text.now c.if-text-gt-LIMIT.true))
+pub find_mark-requires : goal.find_mark-requires
+find_mark-requires c = let fits = header_fits c.args.text.now c.in_ok-head.head c.in_ok-head.ensures in omega (arith, fits, c.size.ensures)
 
-pub returns-then-room-lt-MOST_FIELDS : goal.returns-then-room-lt-MOST_FIELDS
-returns-then-room-lt-MOST_FIELDS c =
-    let a = c.args in c.refuse_text-then-room-lt-MOST_FIELDS.ensures ∙ ap text_answer (sym (too_little a.room a.text.now c.if-text-gt-LIMIT.false c.if-room-lt-MOST_FIELDS.true))
-
-pub returns : goal.returns
-returns c =
-    let a = c.args in c.read_message.ensures ∙ ap text_answer (in_limits a.room a.text.now c.if-text-gt-LIMIT.false c.if-room-lt-MOST_FIELDS.false)
+pub read_behind-requires : goal.read_behind-requires
+read_behind-requires c =
+    let t = c.args.text.now in
+    let fits = header_fits t c.in_ok-head.head c.in_ok-head.ensures in
+    let found : c.find_mark.result ≡ Some c.in_ok-mark.mark = grind arith in
+    let within = mark_fits c.size.result c.in_ok-mark.mark t c.find_mark.result (omega (arith, fits, c.size.ensures)) c.find_mark.ensures found in
+    omega (arith, within, c.size.ensures)

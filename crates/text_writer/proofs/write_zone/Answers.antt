@@ -1,38 +1,27 @@
-use Prim.Native.Nat.{ℕ, ◌≤◌}
-use mathlib.Core.List.{List}
-use mathlib.Core.Path.{refl, sym, ap}
-use native.Mathlib.Omega.{arith}
-use lib.ListN.{length}
+use Rattle.std.proofs.Common.{List, ℕ, ap, sym, ◌∙◌, length, take, get_or, length-append, length-drop, arith}
+use Rattle.std.proofs.lemmas.List.Elements.{All-get_or}
 use Rattle.refusal.specs.Over.{over}
-use Rattle.base32.proofs.Groups.{part_length}
-use Rattle.dictionary.specs.Rows.{rows as theRows}
-use Rattle.text_writer.proofs.Fills.{zone_none, zone_over, more_long, zone_fits, inside_at}
-use borrow.Author.Rules.{rules}
+use Rattle.refusal.proofs.Over.{over_tail, tail_is}
+use Rattle.dictionary.specs.inner.Lookup.{no_field}
+use Rattle.dictionary.specs.Rows.{rows}
+use Rattle.text_writer.specs.inner.Room.{lies_in, field_chars, zone_chars}
+use Rattle.text_writer.proofs.Fills.{zone_more, zone_fits}
 use Rattle.text_writer.proofs.write_zone.Goals as goal
 
-pub loop-i-init : goal.loop-i-init
-loop-i-init c =
-    let s = c.args in (omega arith, ap length (sym (zone_none theRows s.source.now)), ap (λ (x : List ℕ). over x s.out.now) (sym (zone_none theRows s.source.now)), refl)
-
-pub write_field-n-requires : goal.write_field-n-requires
-write_field-n-requires c =
+pub write_field-p-requires : goal.write_field-p-requires
+write_field-p-requires c =
     let s = c.args in
-    let l = c.loop-i in
-    let few : s.fields.count ≤ length s.fields.list = search rules in
-    let fits = zone_fits theRows s.source.now s.fields.list s.fields.count few l.i c.loop-i-test.true in (
-      c.all_rows-table.ensures,
-      inside_at (length s.source.now) s.fields.list s.fields.count l.i few c.loop-i-test.true c.requires.1,
-      omega (arith, fits, c.requires.2, l.invariant.1, l.invariant.3, part_length l.out l.p),
+    let l = c.loop-field in
+    let i = l.field-index in (
+      All-get_or (lies_in (length s.source.now)) s.fields.now i no_field c.loop-field-test.true c.requires.0,
+      omega (arith, c.requires.1, l.invariant.0, zone_fits s.source.now s.fields.now i c.loop-field-test.true, ap length (tail_is l.out l.p), length-drop l.p l.out),
     )
 
-pub loop-i-preserved : goal.loop-i-preserved
-loop-i-preserved c =
+pub loop-field-preserved : goal.loop-field-preserved
+loop-field-preserved c =
     let s = c.args in
-    let l = c.loop-i in
-    let few : s.fields.count ≤ length s.fields.list = search rules in
-    let at = c.loop-i-test.true in (
-      omega (arith, at),
-      omega (arith, more_long theRows s.source.now s.fields.list s.fields.count few l.i at, l.invariant.1, c.write_field-n.ensures.is),
-      zone_over theRows s.source.now s.fields.list s.fields.count few l.i at s.out.now l.out _ l.p l.invariant.1 l.invariant.2 c.write_field-n.ensures.written,
-      omega (arith, l.invariant.3),
+    let l = c.loop-field in
+    let more = zone_more s.source.now s.fields.now l.field-index c.loop-field-test.true in (
+      omega (arith, ap length more, length-append (zone_chars rows s.source.now (take l.field-index s.fields.now)) (field_chars rows s.source.now (get_or s.fields.now l.field-index no_field)), l.invariant.0, c.write_field-p.ensures.is),
+      over_tail _ _ s.out.now l.out _ l.p (sym l.invariant.0) l.invariant.1 c.write_field-p.ensures.written ∙ ap (λ (x : List ℕ). over x s.out.now) (sym more),
     )

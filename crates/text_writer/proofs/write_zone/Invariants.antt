@@ -1,16 +1,9 @@
--- `write_zone` meets its contract. The invariant: the characters of the records passed stand at the front.
-use Prim.Native.Nat.{◌-◌, ◌≤◌}
-use mathlib.Core.Path.{◌≡◌}
-use lib.ListN.{length, take}
+-- `write_zone` meets its contract. The invariant: the records passed are at the front of the output, and the rest of it is as it was.
+use Rattle.std.proofs.Common.{◌≡◌, length, take}
 use Rattle.refusal.specs.Over.{over}
-use Rattle.dictionary.specs.Rows.{rows as theRows}
+use Rattle.dictionary.specs.Rows.{rows}
 use Rattle.text_writer.specs.inner.Room.{zone_chars}
 use Rattle.text_writer.proofs.write_zone.Given as goal
 
-abbrev pub invariant-loop-i : goal.invariant-loop-i
-invariant-loop-i l =
-    (l.i ≤ l.fields.count) × (l.p ≡ length (zone_chars theRows l.source (take l.i (take l.fields.count l.fields.list))))
-    × (l.out ≡ over (zone_chars theRows l.source (take l.i (take l.fields.count l.fields.list))) l.initial.out) × (length l.out ≡ length l.initial.out)
-
-abbrev pub decreases-loop-i : goal.decreases-loop-i
-decreases-loop-i l = l.fields.count - l.i
+abbrev pub invariant-loop-field : goal.invariant-loop-field
+invariant-loop-field l = (l.p ≡ length (zone_chars rows l.source (take l.field-index l.fields))) × (l.out ≡ over (zone_chars rows l.source (take l.field-index l.fields)) l.initial.out)

@@ -4,4 +4,4 @@ use Rattle.symbol_writer.proofs.codewords.put_pads.Goals as goal
 
 pub loop-i-preserved : goal.loop-i-preserved
 loop-i-preserved c =
-    let l = c.loop-i in (omega arith, pads_more _ c.args.symbol.now l.symbol c.args.first l.i c.args.capacity _ (omega arith) (omega (arith, l.invariant.1.long)) c.pad_at.ensures l.invariant.1)
+    let l = c.loop-i in pads_more _ c.args.symbol.now l.symbol c.args.first l.i c.args.capacity _ c.loop-i-test.true (omega (arith, l.invariant.long)) c.pad_at.ensures l.invariant

@@ -1,9 +1,0 @@
--- `show_fields` is safe and ends: the index stays within the list.
-use Prim.Native.Nat.{◌-◌, ◌≤◌}
-use Rattle.samples.proofs.show_fields.Given as goal
-
-abbrev pub invariant-loop-i : goal.invariant-loop-i
-invariant-loop-i g l = l.i ≤ 64
-
-abbrev pub decreases-loop-i : goal.decreases-loop-i
-decreases-loop-i g l = 64 - l.i
