@@ -118,29 +118,26 @@ impl Costs {
         let is_digit = c.is_ascii_digit();
         let is_basic = codeword::is_basic(c);
         // a character, or the first of two digits
-        let digit = if is_digit { self.ascii } else { Least::NEVER };
-        let digits = if is_digit {
-            self.digit.one_more()
+        let (digit, digits) = if is_digit {
+            (self.ascii, self.digit.one_more())
         } else {
-            Least::NEVER
+            (Least::NEVER, Least::NEVER)
         };
         let chars = self.ascii.one_more().min(digits);
-        // a value or two of a new pair, or the lone last codeword
-        let first = if is_basic { self.one } else { self.two };
+        // the first value of a pair, the second, with which and a third the pair is full, and the third: a character has one value or two
+        let (first, one, third) = if is_basic {
+            (self.one, self.two, self.none)
+        } else {
+            (self.two, self.none.two_more(), self.one)
+        };
+        // or the lone last codeword
         let lone = self.end.one_more();
         let values = lone.min(first);
         // on in the same mode, or a codeword to change it
         let ascii = chars.min(values.one_more());
         let none = chars.one_more().min(values);
-        // the second value of a pair; with a second and third value the pair is full
-        let one = if is_basic {
-            self.two
-        } else {
-            self.none.two_more()
-        };
-        // the third value: filler and back to ASCII mode or to the lone last codeword, or a value of the character
+        // the third value may be filler too, and back to ASCII mode or to the lone last codeword
         let filler = ascii.one_more().min(lone);
-        let third = if is_basic { self.none } else { self.one };
         let two = filler.min(third).two_more();
         Costs {
             ascii,
