@@ -17,8 +17,8 @@ use Rattle.refusal.proofs.Binds.{by_bind, by_check, same_good, not_refused}
 use Rattle.day_file.specs.File.{Scan, most_bytes, record_of, need, body, trailer, states, bytes_of}
 use Rattle.day_file.specs.Opening.{two_at, four_at, scan_at, records, opened}
 use Rattle.day_file.specs.Plain.{numbered, withdrawn, found}
-use Rattle.day_file.specs.Promise.{withdrawing, placing, finding}
-use Rattle.day_file.specs.Opens.{list_of, Opens}
+use Rattle.day_file.specs.Promise.{withdrawing, placing}
+use Rattle.day_file.specs.Opens.{Opens, finding, list_of}
 use Rattle.day_file.specs.declared.Opened.{Opened}
 use Rattle.day_file.proofs.Bytes.{Bytes}
 use Rattle.day_file.proofs.Standing.{scan_of}

@@ -40,10 +40,3 @@ placing s len k = do
   r ← found k rs
   check (leb (length r.text) limit) text_too_long 0
   good (record { start = length (body (take k rs)) + 3; length = length r.text })
-
--- where the record of a number starts, if it is live. Only contracts of inner functions cite it.
-abbrev pub finding : (s : List ℕ) (len : ℕ) → ℕ → Answer ℕ
-finding s len k = do
-  rs ← opened s len
-  r ← found k rs
-  good (length (body (take k rs)))

@@ -8,7 +8,8 @@ ghost use Rattle.refusal.specs.Said.{says, turned};
 ghost use Rattle.day_file.specs.File.{most_bytes, four, record_of, body, bytes_of};
 ghost use Rattle.day_file.specs.Opening.{two_at, four_at, standing, records, opened, scans};
 ghost use Rattle.day_file.specs.Plain.{live};
-ghost use Rattle.day_file.specs.Promise.{adding, withdrawing, fetching, slice_after, placing, finding};
+ghost use Rattle.day_file.specs.Promise.{adding, withdrawing, fetching, slice_after, placing};
+ghost use Rattle.day_file.specs.Opens.{finding};
 ghost use Rattle.day_file.specs.Answers.{opened_answer, added_answer, withdrawn_answer, placed_answer, text_of};
 ghost use Rattle.day_file.specs.Pieces.{put_at};
 

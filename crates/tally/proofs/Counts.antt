@@ -1,11 +1,11 @@
 -- What counting keeps: the tally's length.
 -- Assumes nothing.
-use Prim.Native.Nat.{ℕ, ◌+◌}
+use Prim.Native.Nat.{ℕ}
 use mathlib.Core.Bool.{Bool, true, false}
 use mathlib.Core.List.{List}
 use mathlib.Core.Path.{◌≡◌, sym, ap, ◌∙◌}
 use lib.Dec.{ltb}
-use lib.ListN.{length, get_or, set, length-set}
+use lib.ListN.{length, get_or, length-set}
 use Rattle.refusal.specs.Pick.{pick}
 use Rattle.refusal.specs.Answers.{good}
 use Rattle.refusal.specs.Numbers.{count_full}
@@ -14,9 +14,6 @@ use Rattle.day_file.specs.File.{Scan}
 use Rattle.squeeze.specs.Squeeze.{is_live}
 use Rattle.tally.specs.Counting.{most_count, slot_in, add_text, add_scan}
 use Rattle.tally.specs.declared.Tally.{Tally}
-
-abbrev pub more_at : Tally → ℕ → Tally
-more_at t k = record { counts = set t.counts k (get_or t.counts k 0 + 1) }
 
 text_long : (text : List ℕ) (t u : Tally) → add_text text t ≡ good u → length u.counts ≡ length t.counts
 unfolding add_text
