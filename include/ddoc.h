@@ -2,7 +2,7 @@
  * the fields of a message and back, the fields of a message are held against the table of its type, and scans are kept in day files.
  * Nothing is kept between two calls and nothing is shared, so calls may run in several threads at once,
  * as long as each has its own output and work slice. All memory is the caller's but the stack, of which a call takes up to
- * 60 KB (ddoc_read_symbol, of codewords that change the mode at every place). The library needs memcpy, memmove and memset only. */
+ * 60 KB (ddoc_read_symbol, of codewords that change the mode at every place). The library needs memcpy and memset only. */
 #ifndef DDOC_H
 #define DDOC_H
 
@@ -100,7 +100,8 @@ ddoc_answer ddoc_check_words(const uint8_t *data, size_t count, uint8_t *list, s
 ddoc_message ddoc_read_text(const uint8_t *text, size_t length, ddoc_field *fields, size_t room);
 
 /* Writes the message of a header, `count` records, the data that they point into, and a signature into the lent `out`,
- * which has `room` bytes. Records may overlap; the data and the signature must not overlap the output.
+ * which has `room` bytes. Records may overlap, and the list may overlap the output: it is taken over before a byte is written. The data and
+ * the signature must not overlap the output.
  * Accepted: the first `length` bytes are the text, the others are untouched. Refused: every byte is untouched. */
 ddoc_answer ddoc_write_text(ddoc_header header, const ddoc_field *fields, size_t count, const uint8_t *data,
                             size_t data_length, const uint8_t *signature, size_t signature_length, uint8_t *out,

@@ -129,11 +129,31 @@ static void check_without_lists(void) {
     check_answer("type 03: refused 28", ddoc_conformity('0', '3', NULL, 0), 28, 0, 0);
 }
 
+/* The records may lie where the text goes: they are taken out of the list before a byte is written. */
+static void check_list_in_output(void) {
+    static const ddoc_field list[] = {{86, false, 0, 5}, {87, false, 5, 2}};
+    static const char data[] = "PARISFR";
+    const size_t length = HEADER + sizeof "6XPARIS\0356YFR" - 1 + 1 + LETTERS;
+    uint8_t apart[LENT], zeros[SIGNATURE] = {0};
+    ddoc_write_text(header, list, 2, (const uint8_t *)data, strlen(data), zeros, SIGNATURE, apart, LENT);
+    for (size_t at = 0; at <= sizeof list; at += 4) {
+        union {
+            ddoc_field list[2];
+            uint8_t bytes[sizeof list + LENT];
+        } lent;
+        memcpy(lent.list, list, sizeof list);
+        ddoc_answer answer = ddoc_write_text(header, lent.list, 2, (const uint8_t *)data, strlen(data), zeros, SIGNATURE, lent.bytes + at, LENT);
+        report(answer.number == 0 && answer.length == length && memcmp(lent.bytes + at, apart, length) == 0, "the records lie in the output",
+               answer.number, answer.place);
+    }
+}
+
 int main(void) {
     for (size_t i = 0; i < sizeof samples / sizeof samples[0]; i++) {
         check(&samples[i]);
     }
     check_without_lists();
+    check_list_in_output();
     printf("%d passed, %d failed\n", passed, failed);
     return failed == 0 ? 0 : 1;
 }

@@ -27,13 +27,17 @@ pub in_room : (n room : ℕ) → is_capacity n ≡ true → n ≤ most_data → 
 unfolding words_of
 in_room n room is h g = rw (is, le-leb n most_data h, le-leb (n + check_count n) room g)
 
-pub fits : (n room m : ℕ) → words_of n room ≡ good m → (m ≡ n + check_count n) × (m ≤ 242)
+-- m words for n data codewords: these and their check words, 1 to 68 of them; and they have their room
+pub fits : (n room m : ℕ) → words_of n room ≡ good m → (m ≡ n + check_count n) × (m ≤ 242) × (m ≤ room) × (n + 1 ≤ m) × (m ≤ n + 68)
 unfolding words_of
 fits n room m e = go (is_capacity n) refl (leb n most_data) refl (leb (n + check_count n) room) refl
   where
-    go : (a : Bool) → is_capacity n ≡ a → (b : Bool) → leb n most_data ≡ b → (c : Bool) → leb (n + check_count n) room ≡ c → (m ≡ n + check_count n) × (m ≤ 242)
+    go : (a : Bool) → is_capacity n ≡ a → (b : Bool) → leb n most_data ≡ b → (c : Bool) → leb (n + check_count n) room ≡ c
+        → (m ≡ n + check_count n) × (m ≤ 242) × (m ≤ room) × (n + 1 ≤ m) × (m ≤ n + 68)
     go true p true q true r =
-        let g : n + check_count n ≡ m = same_good (simp (p, q, r) at e) in (sym g, omega (arith, g, (small n p (leb-true _ _ q)).most))
+        let g : n + check_count n ≡ m = same_good (simp (p, q, r) at e) in
+        let s = small n p (leb-true _ _ q) in
+        (sym g, omega (arith, g, s.most), omega (arith, g, leb-true _ _ r), omega (arith, g, s.some), omega (arith, g, s.few))
     go true p true q false r = never (simp (p, q, r) at e)
     go true p false q c r = never (simp (p, q) at e)
     go false p true q c r = never (simp (p, q) at e)

@@ -69,28 +69,18 @@ fn generate(g: &mut [u8])
     }
 }
 
-// Adds a times the words of g to those of r.
-#[tactic(auto, using(crate::proofs::Feeding::plus_next, crate::proofs::Feeding::plus_end))]
-fn add_times(r: &mut [u8], a: u8, g: &[u8])
-    requires { length g.now ≡ length r.old }
-    ensures { r.new ≡ plus r.old (scale a g.now) }
-{
-    let m = galois::log_of(a);
-    for (i, &c) in g.iter().enumerate() {
-        r[i] ^= galois::times(m, c);
-    }
-}
-
-// The register r takes the word d in.
-#[tactic(auto, using(crate::proofs::Feeding::feed_is))]
+// The register r takes the word d in: each word becomes the one behind it, and none behind the last, with its part of the generator added.
+#[tactic(auto, using(crate::proofs::Feeding::feed_first))]
 fn feed_one(g: &[u8], r: &mut [u8], d: u8)
     requires { (length g.now ≡ length r.old) × (1 ≤ length r.old) }
     ensures { r.new ≡ feed g.now r.old d }
 {
-    let a = r[0] ^ d;
-    r.copy_within(1.., 0);
-    r[r.len() - 1] = 0;
-    add_times(r, a, g);
+    let m = galois::log_of(r[0] ^ d);
+    let last = r.len() - 1;
+    for i in 0..last {
+        r[i] = r[i + 1] ^ galois::times(m, g[i]);
+    }
+    r[last] = galois::times(m, g[last]);
 }
 
 // The check words of the data into r, as many as r has.
@@ -132,7 +122,7 @@ pub fn check_words(codewords: &[u8], list: &mut [u8]) -> Result<usize, Refusal>
 {
     let n = codewords.len();
     let m = judge(n, list.len())?;
-    list[..n].copy_from_slice(codewords);
+    refusal::copy(codewords, &mut list[..n]);
     check_into(codewords, &mut list[n..m]);
     Ok(m)
 }

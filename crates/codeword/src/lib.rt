@@ -167,12 +167,13 @@ pub fn place_of(c: u8) -> Place
     Place { set, number }
 }
 
-// Whether a character takes one value: the space, a digit or a capital letter.
+// Whether a character takes one value: the space, a digit or a capital letter. The writer asks at every character, so the tests are joined without
+// a branch.
 #[tactic(auto, unfolding(crate::specs::Characters::set_of))]
 pub fn is_basic(c: u8) -> bool
     ensures { result ≡ is_basic (set_of c) }
 {
-    matches!(c, b' ' | b'0'..=b'9' | b'A'..=b'Z')
+    (c == b' ') | c.is_ascii_digit() | c.is_ascii_uppercase()
 }
 
 // Padding starts with 129. A later pad at place p (the first codeword is place 1) is 129 + ((149p mod 253) + 1), less 254 if above 254.

@@ -1,3 +1,4 @@
+pub mod Exchanges
 pub mod Marks
 pub mod There
 pub mod Whole

@@ -7,13 +7,13 @@ use native.Mathlib.Omega.{arith}
 use lib.ListN.{length, get_or, take, drop, length-append}
 use lib.Seq.{length-take-le, take_all, get_or-take}
 use Rattle.refusal.specs.Over.{over}
-use Rattle.day_file.specs.File.{Scan, most_bytes, four, record_of, need, body, starts, bytes_of}
+use Rattle.day_file.specs.File.{Scan, four, record_of, need, body, starts, bytes_of}
 use Rattle.day_file.specs.Opening.{two_at, scans}
 use Rattle.day_file.specs.Plain.{numbered}
 use Rattle.day_file.specs.Pieces.{put_at}
 use Rattle.day_file.proofs.Standing.{length_scans}
 use Rattle.day_file.proofs.Good.{length_starts}
-use Rattle.day_file.proofs.Putting.{take_put, put_none, put_put, put_over}
+use Rattle.day_file.proofs.Putting.{length_put, take_put, put_none, put_put, put_over}
 use Rattle.day_file.proofs.Places.{in_body, length_there, within, parted, starts_more, body_more}
 
 -- with the first i starts put
@@ -23,13 +23,8 @@ starts_put f count t i = put_at f t (starts 0 (take i (scans count (take t f))))
 abbrev pub size_put : (f : List ℕ) (count t i : ℕ) → ℕ
 size_put f count t i = length (body (take i (scans count (take t f))))
 
-module _ (f : List ℕ) (count t : ℕ) (all : (body (scans count (take t f)) ≡ take t f) × (t + 4 * count + 8 ≤ most_bytes) × (most_bytes ≤ length f)) where
-  e : body (scans count (take t f)) ≡ take t f
-  e = all.0
-
-  room : t + 4 * count + 8 ≤ length f
-  room = omega (arith, all.1, all.2)
-
+-- of any slice with room for the trailer
+module _ (f : List ℕ) (count t : ℕ) (e : body (scans count (take t f)) ≡ take t f) (room : t + 4 * count + 8 ≤ length f) where
   abbrev rs : List Scan
   rs = scans count (take t f)
 
@@ -76,6 +71,10 @@ module _ (f : List ℕ) (count t : ℕ) (all : (body (scans count (take t f)) �
 
   pub front_kept : (i : ℕ) → take t (starts_put f count t i) ≡ take t f
   front_kept i = take_put f t (starts 0 (take i rs)) (omega arith)
+
+  -- the starts don't make the slice longer
+  pub length_starts_put : (i : ℕ) → i ≤ count → length (starts_put f count t i) ≡ length f
+  length_starts_put i h = length_put f t (starts 0 (take i rs)) (omega (arith, length_starts 0 (take i rs), length-take-le i rs (omega (arith, long))))
 
   -- a turn, from what stood before it
   module _ (i : ℕ) (h : i < count) (at : ℕ) (g : List ℕ) (now : (at ≡ size_put f count t i) × (g ≡ starts_put f count t i)) where

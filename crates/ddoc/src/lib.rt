@@ -167,7 +167,8 @@ pub extern "C" fn ddoc_read_text(text: &[u8], fields: &mut [Field]) -> Message
     }
 }
 
-// The records' data stand in `source`. The answer's length is that of the text written.
+// The records' data stand in `source`. The answer's length is that of the text written. The list may lie where the output does, so its records are
+// taken out of it before a byte is written; of more than 64 none is looked at.
 #[unsafe(no_mangle)]
 pub extern "C" fn ddoc_write_text(
     header: Header,
@@ -178,7 +179,12 @@ pub extern "C" fn ddoc_write_text(
 ) -> Answer
     ensures { WriteTextPromised (record { header = header; fields = fields.now; signature = signature.now }) source.now out.old out.new result }
 {
-    match text_writer::write_text(header, fields, source, signature, out) {
+    let taken = records::take_fields(fields);
+    let list = match &taken {
+        Some(taken) => taken.as_slice(),
+        None => fields,
+    };
+    match text_writer::write_text(header, list, source, signature, out) {
         Ok(length) => accepted(length, 0),
         Err(w) => w.into(),
     }

@@ -2,6 +2,7 @@
 
 #![tactic(auto)]
 
+mod fields;
 mod table;
 
 ghost use Rattle.std.specs.Prelude.{◌≡◌, ℕ, ◌+◌, ◌≤◌, length};
@@ -9,7 +10,7 @@ ghost use Rattle.dictionary.specs.Dictionary.{in_kind, is_greatest, fixed, allow
 ghost use Rattle.dictionary.specs.Rows.{rows};
 ghost use Rattle.dictionary.specs.inner.Lookup.{place_of, found_says, row_found_says, so_far};
 
-use arrayvec::ArrayVec;
+pub use fields::Fields;
 
 // The rows are numbered from 0.
 pub const ROW_COUNT: usize = 110;
@@ -78,9 +79,6 @@ pub struct Field {
     pub start: u32,
     pub length: u32,
 }
-
-// The fields of a message.
-pub type Fields = ArrayVec<Field, { refusal::MOST_FIELDS }>;
 
 // The table of the rows.
 #[tactic(auto, unfolding(crate::specs::Rows::rows))]

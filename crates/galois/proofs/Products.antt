@@ -198,6 +198,10 @@ pub ⊗-assoc : (a b c : ℕ) → (a ⊗ b) ⊗ c ≡ a ⊗ (b ⊗ c)
     ∙ assoc_low (a % 256) (b % 256) (c % 256) (omega arith) (omega arith) (omega arith)
     ∙ sym (⊗-low-l a (b ⊗ c) ∙ ap (λ (x : ℕ). (a % 256) ⊗ x) (⊗-low b c))
 
+-- the first of two factors goes past the second
+pub ⊗-left-comm : (a b c : ℕ) → a ⊗ (b ⊗ c) ≡ b ⊗ (a ⊗ c)
+⊗-left-comm a b c = sym (⊗-assoc a b c) ∙ ap (λ (x : ℕ). x ⊗ c) (⊗-comm a b) ∙ ⊗-assoc b a c
+
 pub ⊗-zero-r : (a : ℕ) → a ⊗ 0 ≡ 0
 ⊗-zero-r a = adds_zero (λ x. a ⊗ x) (⊗-dist a)
 
@@ -214,3 +218,6 @@ pub ⊗-one-l : (b : ℕ) → b < 256 → 1 ⊗ b ≡ b
 
 pub ⊗-one : (b : ℕ) → b < 256 → b ⊗ 1 ≡ b
 ⊗-one b h = ⊗-comm b 1 ∙ ⊗-one-l b h
+
+-- the laws of the product that hold of every number
+pub ruleset products = (⊗-dist, ⊗-dist-r, ⊗-assoc, ⊗-comm, ⊗-left-comm, ⊗-zero-l, ⊗-zero-r)

@@ -1,3 +1,4 @@
 -- What several proofs use.
 pub mod Parts
 pub mod Writes
+pub mod Named

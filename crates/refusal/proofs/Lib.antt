@@ -5,3 +5,4 @@ pub mod Over
 pub mod Chars
 pub mod Among
 pub mod Said
+pub mod Named

@@ -1,6 +1,7 @@
--- A result says one thing, and what it says tells it: the numbers of two reasons differ. By the reason that has a number.
+-- A result says one thing, and what it says tells it: the numbers of two reasons differ. By the reason that has a number. And no reason
+-- has the number 0.
 -- Assumes nothing.
-use Rattle.std.specs.Prelude.{ℕ, ◌≡◌, eqb, Ok, Err}
+use Rattle.std.specs.Prelude.{ℕ, zero, suc, ◌≡◌, ◌<◌, eqb, Ok, Err}
 use Rattle.std.specs.declared.result.Result.{Result}
 use mathlib.Core.Path.{refl, sym, ap, ap₂, ◌∙◌}
 use native.Mathlib.Omega.{arith}
@@ -93,6 +94,14 @@ reason_back WrongPad = refl
 
 pub same_reason : (r q : Reason) → number_of r ≡ number_of q → r ≡ q
 same_reason r q e = sym (reason_back r) ∙ ap reason_of e ∙ reason_back q
+
+-- No reason has the number 0, so that 0 can tell of no refusal: what has it would be the last reason.
+pub no_zero : (r : Reason) → 0 < number_of r
+no_zero r = go (number_of r) refl
+  where
+    go : (n : ℕ) → number_of r ≡ n → 0 < number_of r
+    go zero e = let last : r ≡ WrongPad = sym (reason_back r) ∙ ap reason_of e in absurd (omega (arith, e, ap number_of last))
+    go (suc n) e = omega (arith, e)
 
 pub says_one : {A : Type 0} (r q : Result A Refusal) → says r ≡ says q → r ≡ q
 says_one (Ok a) (Ok b) e = let same : a ≡ b = cc in ap Ok same

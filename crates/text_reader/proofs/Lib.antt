@@ -4,3 +4,4 @@ pub mod Zones
 pub mod Marks
 pub mod Whole
 pub mod One
+pub mod Named

@@ -1,6 +1,7 @@
 -- The whole text: the room of its pieces, and what an accepted message is written as.
 -- By cases on what the pieces answer. Assumes nothing.
-use Rattle.std.proofs.Common.{ℕ, zero, suc, Bool, true, false, not, ◌&&◌, ◌||◌, ◌≡◌, ◌+◌, ◌*◌, ◌/◌, ◌≤◌, ◌<◌, List, [], ◌∷◌, ◌++◌, length, get_or, leb, length-append, All, arith, refl, sym, ap, subst, ◌∙◌}
+use Rattle.std.proofs.Common.{ℕ, zero, suc, Bool, true, false, not, ◌&&◌, ◌||◌, ◌≡◌, ◌+◌, ◌*◌, ◌/◌, ◌≤◌, ◌<◌, List, [], ◌∷◌, ◌++◌, length, get_or, leb}
+use Rattle.std.proofs.Common.{length-append, All, arith, refl, sym, ap, ◌∙◌}
 use lib.Dec.{eqb}
 use borrow.Author.Tests.{le-leb, lt-leb, leb-true, eqb-true}
 use Rattle.std.proofs.lemmas.List.Elements.{All-cons}
@@ -95,27 +96,29 @@ row_any [] n i j e = never e
 row_any (r ∷ d) zero i j e = e
 row_any (r ∷ d) (suc n) i j e = row_any d n i j e
 
-field_good : (s : List ℕ) (before : List Field) (i : ℕ) (f : Field) (x : List ℕ) → write_field rows s before i f ≡ good x → (x ≡ field_chars rows s f) × lies_in (length s) f
+field_good : (d : Dictionary) (s : List ℕ) (before : List Field) (i : ℕ) (f : Field) (x : List ℕ)
+    → write_field d s before i f ≡ good x → (x ≡ field_chars d s f) × lies_in (length s) f
 unfolding write_field write_data
-field_good s before i f x e =
-    by_bind (row_at rows f.row i) _ e λ r er e.
+field_good d s before i f x e =
+    by_bind (row_at d f.row i) _ e λ r er e.
     by_check (leb (f.start + f.length) (length s)) _ _ _ e λ h e.
     by_check (not (among f.row (rows_of before))) _ _ _ e λ _ e.
     by_check (not (f.cut && fixed r)) _ _ _ e λ _ e.
     by_check (within r.greatest (length (data_of s f))) _ _ _ e λ _ e.
     by_check (in_turn r [] (data_of s f)) _ _ _ e λ _ e.
     by_check (leb r.least (length (data_of s f))) _ _ _ e λ _ e.
-    (sym (same_good e) ∙ sym (ap (λ x. spelled_by x (data_of s f) f.cut) (row_any rows f.row i 0 er)), leb-true (f.start + f.length) (length s) h)
+    (sym (same_good e) ∙ sym (ap (λ x. spelled_by x (data_of s f) f.cut) (row_any d f.row i 0 er)), leb-true (f.start + f.length) (length s) h)
 
-zone_good : (s : List ℕ) (before : List Field) (i : ℕ) (fs : List Field) (z : List ℕ) → write_zone rows s before i fs ≡ good z → (z ≡ zone_chars rows s fs) × All (lies_in (length s)) fs
+zone_good : (d : Dictionary) (s : List ℕ) (before : List Field) (i : ℕ) (fs : List Field) (z : List ℕ)
+    → write_zone d s before i fs ≡ good z → (z ≡ zone_chars d s fs) × All (lies_in (length s)) fs
 unfolding write_zone
-zone_good s before i [] z e = (sym (same_good e), λ k d h. absurd (omega arith))
-zone_good s before i (f ∷ fs) z e =
-    by_bind (write_field rows s before i f) _ e λ x ex e.
-    by_bind (write_zone rows s (before ++ (f ∷ [])) (suc i) fs) _ e λ y ey e.
-    let a = field_good s before i f x ex in
-    let b = zone_good s (before ++ (f ∷ [])) (suc i) fs y ey in
-    (sym (same_good e) ∙ ap (λ (l : List ℕ). l ++ y) a.0 ∙ ap (λ (l : List ℕ). field_chars rows s f ++ l) b.0, All-cons (lies_in (length s)) f fs a.1 b.1)
+zone_good d s before i [] z e = (sym (same_good e), λ k d h. absurd (omega arith))
+zone_good d s before i (f ∷ fs) z e =
+    by_bind (write_field d s before i f) _ e λ x ex e.
+    by_bind (write_zone d s (before ++ (f ∷ [])) (suc i) fs) _ e λ y ey e.
+    let a = field_good d s before i f x ex in
+    let b = zone_good d s (before ++ (f ∷ [])) (suc i) fs y ey in
+    (sym (same_good e) ∙ ap (λ (l : List ℕ). l ++ y) a.0 ∙ ap (λ (l : List ℕ). field_chars d s f ++ l) b.0, All-cons (lies_in (length s)) f fs a.1 b.1)
 
 -- a signature's length is one of three
 signature_most : (n : ℕ) → length_of_bytes n ≡ true → n ≤ 132
@@ -124,23 +127,36 @@ signature_most n e =
     (λ b. by_or (eqb n 64) (eqb n 96) b (λ a. omega (arith, eqb-true n 64 a)) (λ a. omega (arith, eqb-true n 96 a)))
     (λ a. omega (arith, eqb-true n 132 a))
 
--- AND AN ACCEPTED MESSAGE
-pub record Accepted (v : Version) (h : Header) (f : List Field) (g s : List ℕ) (t : List ℕ) : Type 0 where
-  pub is : t ≡ text_chars rows v h f g s
+-- AND AN ACCEPTED MESSAGE, by any dictionary
+pub record Accepted (d : Dictionary) (v : Version) (h : Header) (f : List Field) (g s : List ℕ) (n : ℕ) : Type 0 where
+  pub written : writing d (message_of h f g) s ≡ good (text_chars d v h f g s)
   pub inside : All (lies_in (length s)) f
   pub signed : length g ≤ 132
+  pub long : length (text_chars d v h f g s) ≡ n
 
-text_good : (v : Version) (h : Header) (f : List Field) (g s t : List ℕ) → version_of (get_or h.version 0 0) (get_or h.version 1 0) ≡ good v → writing rows (message_of h f g) s ≡ good t → Accepted v h f g s t
-unfolding writing write_signature
-text_good v h f g s t e w =
-    by_check (leb (length f) most_fields) _ _ _ w λ _ k.
-    by_bind (write_header h) _ k λ a ea k.
-    by_bind (write_zone rows s [] 0 f) _ k λ z ez k.
-    by_bind (write_signature g) _ k λ c ec k.
-    by_check (length_of_bytes (length g)) _ _ _ ec λ b ec.
-    let zone = zone_good s [] 0 f z ez in
-    let head : a ≡ header_chars v h = by_seq (parts v (header_chars v h)) (good (header_chars v h)) (rw e at ea) λ _ _ k. sym (same_good k) in
-    record { is = sym (same_good k) ∙ (λ j. head j ++ (zone.0 j ++ (31 ∷ same_good (sym ec) j))); inside = zone.1; signed = signature_most (length g) b }
+module _ (d : Dictionary) (v : Version) (h : Header) (f : List Field) (g s : List ℕ)
+    (e : version_of (get_or h.version 0 0) (get_or h.version 1 0) ≡ good v) where
+  -- a text of n characters was written: so it is the message's characters
+  text_good : (n : ℕ) (t : List ℕ) → writing d (message_of h f g) s ≡ good t → length t ≡ n → Accepted d v h f g s n
+  unfolding writing write_signature
+  text_good n t w l =
+      by_check (leb (length f) most_fields) _ _ _ w λ _ k.
+      by_bind (write_header h) _ k λ a ea k.
+      by_bind (write_zone d s [] 0 f) _ k λ z ez k.
+      by_bind (write_signature g) _ k λ c ec k.
+      by_check (length_of_bytes (length g)) _ _ _ ec λ b ec.
+      let zone = zone_good d s [] 0 f z ez in
+      let head : a ≡ header_chars v h = by_seq (parts v (header_chars v h)) (good (header_chars v h)) (rw e at ea) λ _ _ k. sym (same_good k) in
+      let is : t ≡ text_chars d v h f g s = sym (same_good k) ∙ (λ j. head j ++ (zone.0 j ++ (31 ∷ same_good (sym ec) j))) in
+      record { written = w ∙ ap good is; inside = zone.1; signed = signature_most (length g) b; long = ap length (sym is) ∙ l }
+
+  -- what takes the room of n characters is accepted
+  pub accepted : {n : ℕ} → good n ≡ turned length (writing d (message_of h f g) s) → Accepted d v h f g s n
+  accepted {n} k = go (writing d (message_of h f g) s) refl k
+    where
+      go : (w : Answer (List ℕ)) → writing d (message_of h f g) s ≡ w → good n ≡ turned length w → Accepted d v h f g s n
+      go (good t) o k = text_good n t o (sym (same_good k))
+      go (refused j p) o k = not_refused k
 
 -- a refusal is the room's
 abbrev shown : Answer ℕ → Answer (List ℕ) → Answer (List ℕ)
@@ -162,17 +178,6 @@ module _ (h : Header) (f : List Field) (g s : List ℕ) where
   pub unknown : length f ≤ most_fields → (k p : ℕ) → version_of (get_or h.version 0 0) (get_or h.version 1 0) ≡ refused k p → writing rows (message_of h f g) s ≡ refused k p
   unfolding writing
   unknown few k p e = rw (le-leb (length f) most_fields few, e)
-
-  pub by_room : (v : Version) (n : ℕ) → version_of (get_or h.version 0 0) (get_or h.version 1 0) ≡ good v → good n ≡ turned length (writing rows (message_of h f g) s)
-      → (writing rows (message_of h f g) s ≡ good (text_chars rows v h f g s)) × (length (text_chars rows v h f g s) ≡ n) × Accepted v h f g s (text_chars rows v h f g s)
-  by_room v n e k = go (writing rows (message_of h f g) s) refl k
-    where
-      go : (w : Answer (List ℕ)) → writing rows (message_of h f g) s ≡ w → good n ≡ turned length w
-          → (writing rows (message_of h f g) s ≡ good (text_chars rows v h f g s)) × (length (text_chars rows v h f g s) ≡ n) × Accepted v h f g s (text_chars rows v h f g s)
-      go (good t) o k =
-          let a = text_good v h f g s t e o in
-          (o ∙ ap good a.is, ap length (sym a.is) ∙ sym (same_good k), subst (Accepted v h f g s) a.is a)
-      go (refused j p) o k = not_refused k
 
 pub chars_long : (v : Version) (h : Header) (f : List Field) (g s : List ℕ) → length (header_chars v h) ≡ size v → length (text_chars rows v h f g s) ≡ ((size v + length (zone_chars rows s f)) + 1) + (8 * length g + 4) / 5
 chars_long v h f g s long = omega (arith, long, length-append (header_chars v h) (zone_chars rows s f ++ (31 ∷ encoded g)), length-append (zone_chars rows s f) (31 ∷ encoded g), length_encoded g)
