@@ -100,7 +100,7 @@ ddoc_answer ddoc_check_words(const uint8_t *data, size_t count, uint8_t *list, s
 ddoc_message ddoc_read_text(const uint8_t *text, size_t length, ddoc_field *fields, size_t room);
 
 /* Writes the message of a header, `count` records, the data that they point into, and a signature into the lent `out`,
- * which has `room` bytes. Records may overlap, and the list may overlap the output: it is taken over before a byte is written. The data and
+ * which has `room` bytes. Records may overlap, and the list may overlap the output: it is copied before a byte is written. The data and
  * the signature must not overlap the output.
  * Accepted: the first `length` bytes are the text, the others are untouched. Refused: every byte is untouched. */
 ddoc_answer ddoc_write_text(ddoc_header header, const ddoc_field *fields, size_t count, const uint8_t *data,

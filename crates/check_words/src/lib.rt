@@ -122,7 +122,7 @@ pub fn check_words(codewords: &[u8], list: &mut [u8]) -> Result<usize, Refusal>
 {
     let n = codewords.len();
     let m = judge(n, list.len())?;
-    refusal::copy(codewords, &mut list[..n]);
+    refusal::copy_whole(codewords, &mut list[..n]);
     check_into(codewords, &mut list[n..m]);
     Ok(m)
 }

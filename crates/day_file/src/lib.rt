@@ -142,7 +142,7 @@ fn put_record(file: &mut [u8], p: usize, text: &[u8])
     let n = text.len();
     file[p] = LIVE;
     file[p + 1..p + 3].copy_from_slice(&(n as u16).to_be_bytes());
-    refusal::copy(text, &mut file[p + 3..p + 3 + n]);
+    refusal::copy_whole(text, &mut file[p + 3..p + 3 + n]);
 }
 
 // The trailer behind the `count` records that stand up to t.

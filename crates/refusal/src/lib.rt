@@ -94,13 +94,20 @@ pub const LIMIT: usize = 1000;
 // A message has at most 64 fields.
 pub const MOST_FIELDS: usize = 64;
 
-// The one over the other, which is as long: `copy_from_slice` as a loop over two slices that are known to lie apart, so that the archive needs
-// no `memmove` from outside.
-pub fn copy(from: &[u8], to: &mut [u8])
+// The first n of the one over the first n of the other.
+pub fn copy(from: &[u8], to: &mut [u8], n: usize)
+    requires { (n ≤ length from.now) × (n ≤ length to.old) }
+    ensures { to.new ≡ take n from.now ++ drop n to.old }
+{
+    for i in 0..n {
+        to[i] = from[i];
+    }
+}
+
+// The one over the other, which is as long: `copy_from_slice`, where that is compiled to a call of `memmove`, which the archive does not ask for.
+pub fn copy_whole(from: &[u8], to: &mut [u8])
     requires { length from.now ≡ length to.old }
     ensures { to.new ≡ from.now }
 {
-    for i in 0..from.len() {
-        to[i] = from[i];
-    }
+    copy(from, to, from.len());
 }

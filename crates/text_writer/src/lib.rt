@@ -97,7 +97,7 @@ impl Data<'_> {
         let end = self.chars.len() + 2;
         out[0] = self.row.first;
         out[1] = self.row.second;
-        refusal::copy(self.chars, &mut out[2..end]);
+        refusal::copy_whole(self.chars, &mut out[2..end]);
         match self.mark() {
             Some(mark) => {
                 out[end] = mark;

@@ -11,4 +11,4 @@ pub returns : goal.returns
 returns c =
     let n = length c.args.text.now in
     let high : n / 256 % 256 ≡ n / 256 = omega (arith, c.requires.1) in
-    rw (c.copy_from_slice.ensures.after, c.copy.ensures, c.to_be_bytes.ensures, high) (record_put c.args.file.now (two n) c.args.text.now c.args.p 1 refl c.requires.0)
+    rw (c.copy_from_slice.ensures.after, c.copy_whole.ensures, c.to_be_bytes.ensures, high) (record_put c.args.file.now (two n) c.args.text.now c.args.p 1 refl c.requires.0)
