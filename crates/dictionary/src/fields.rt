@@ -1,12 +1,9 @@
 // The fields of a message: a vector of fixed capacity as the kit's `ArrayVec` is, and a value that is copied like a field.
 ghost use Rattle.std.specs.Prelude.{◌≡◌, ◌==◌, ◌+◌, ◌<◌, ◌≤◌, List, [], ◌∷◌, ◌++◌, length};
-ghost use Rattle.std.specs.Bool.{beq, nat_eq};
-ghost use Rattle.std.specs.Cmp.{partial_equiv_from_equiv, bool_eq_equiv};
-ghost use Rattle.std.proofs.lemmas.Cmp.{on_equiv, and_equiv, lists_equiv, nat_eq_equiv};
-ghost use Rattle.std.specs.Cmp.Lexicographic.{pointwise};
-ghost use Rattle.std.specs.Ordering.{on, eq_of_both};
+ghost use Rattle.std.specs.Cmp.{partial_equiv_from_equiv};
 ghost use Rattle.arrayvec.specs.ArrayVec.{array_vec_len};
 ghost use Rattle.refusal.specs.Limits.{most_fields};
+ghost use Rattle.dictionary.specs.inner.Equal.{equal, equal_laws};
 
 use super::Field;
 use refusal::MOST_FIELDS;
@@ -35,7 +32,8 @@ impl Model for Fields {
 
     ghost view = { λ f. record { items = take f.count f.list } };
 
-    ghost invariant = { λ f. (f.count ≤ most_fields) × (length f.list ≡ most_fields) × (drop f.count f.list ≡ replicate (most_fields - f.count) no_field) };
+    ghost invariant = { λ f.
+        (f.count ≤ most_fields) × (length f.list ≡ most_fields) × (drop f.count f.list ≡ replicate (most_fields - f.count) no_field) };
 
     ghost inverse = { λ v. record { list = over v.items (replicate most_fields no_field); count = length v.items } };
 
@@ -116,9 +114,9 @@ impl DerefSlice for Fields {
 }
 
 impl PartialEq for Fields {
-    ghost eq = { on (λ v. v.items) (pointwise (eq_of_both (on (λ f. f.row) nat_eq) (eq_of_both (on (λ f. f.cut) beq) (eq_of_both (on (λ f. f.start) nat_eq) (on (λ f. f.length) nat_eq))))) };
+    ghost eq = { equal };
 
-    ghost laws = { partial_equiv_from_equiv (on_equiv (λ v. v.items) (lists_equiv (and_equiv (on_equiv (λ f. f.row) nat_eq_equiv) (and_equiv (on_equiv (λ f. f.cut) bool_eq_equiv) (and_equiv (on_equiv (λ f. f.start) nat_eq_equiv) (on_equiv (λ f. f.length) nat_eq_equiv)))))) };
+    ghost laws = { partial_equiv_from_equiv equal_laws };
 
     fn eq(&self, other: &Fields) -> bool {
         self.as_slice() == other.as_slice()
@@ -126,7 +124,7 @@ impl PartialEq for Fields {
 }
 
 impl Eq for Fields {
-    ghost laws = { on_equiv (λ v. v.items) (lists_equiv (and_equiv (on_equiv (λ f. f.row) nat_eq_equiv) (and_equiv (on_equiv (λ f. f.cut) bool_eq_equiv) (and_equiv (on_equiv (λ f. f.start) nat_eq_equiv) (on_equiv (λ f. f.length) nat_eq_equiv))))) };
+    ghost laws = { equal_laws };
 }
 
 impl fmt::Debug for Fields {
